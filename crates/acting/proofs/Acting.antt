@@ -1,5 +1,6 @@
 -- The code's answer and the paper's go together: a tally where something is made, failure where nothing is.
 -- Assumes nothing.
+use Rattle.std.proofs.Common.{None, Some}
 use mathlib.Core.Path.{◌≡◌, sym, ◌∙◌, ap, refl}
 use mathlib.Core.List.{List, [], map, map-append}
 use mathlib.Core.Option.{Option, none, some}
@@ -22,9 +23,7 @@ use Rattle.vacate.proofs.Answers.{answered-failed, answered-count}
 use Rattle.moving.proofs.Playing.{stored-none, stored-then}
 use Rattle.acting.proofs.Junctions.{parks-few}
 use Rattle.acting.specs.declared.Tally.{Tally}
-use Rattle.acting.specs.declared.Tried.TheVariants.{Done}
-use Rattle.acting.specs.declared.Tried.TheVariants.{Failed}
-use Rattle.acting.specs.declared.Tried.{Tried}
+use Rattle.acting.specs.Tried.{Tried}
 use Rattle.vacate.specs.declared.Vacated.{Vacated}
 use Rattle.vacate.specs.declared.Vacated.TheVariants.{Empty, Filled, Failed as NotVacated}
 
@@ -100,16 +99,16 @@ tallied-then {a = a} {b = b} {p = p} {at = at} {m = m} {r = r} x y = record {
 -- ## Answers
 
 module _ {o : Option Made} {n : ℕ} {p out : List ℕ} {at : Tally} {p' standing' empty' out' : List ℕ} where
-  pub tries-none : o ≡ none → Tries o n p out at p' standing' empty' out' Failed
+  pub tries-none : o ≡ none → Tries o n p out at p' standing' empty' out' None
   tries-none e = record { fails = λ d. refl; succeeds = λ m d. never-some m (sym e ∙ d) }
 
-  pub tries-some : {r : Tally} {m : Made} → o ≡ some m → Tallied m n p p' standing' empty' out at out' r → Tries o n p out at p' standing' empty' out' (Done r)
+  pub tries-some : {r : Tally} {m : Made} → o ≡ some m → Tallied m n p p' standing' empty' out at out' r → Tries o n p out at p' standing' empty' out' (Some r)
   tries-some {r} {m} e s = record {
     fails = λ d. never-some m (sym d ∙ e);
     succeeds = λ k d. let same : m ≡ k = some_same (sym e ∙ d) in record { count = r; done = refl; played = rw same at s };
   }
 
-  pub tried-done : {r : Tally} → Tries o n p out at p' standing' empty' out' (Done r) → (m : Made) × (o ≡ some m) × Tallied m n p p' standing' empty' out at out' r
+  pub tried-done : {r : Tally} → Tries o n p out at p' standing' empty' out' (Some r) → (m : Made) × (o ≡ some m) × Tallied m n p p' standing' empty' out at out' r
   tried-done {r} h =
       by-option o
       (λ e. let z = h.fails e in never (cc))
@@ -118,20 +117,20 @@ module _ {o : Option Made} {n : ℕ} {p out : List ℕ} {at : Tally} {p' standin
       let same : s.count ≡ r = let z = s.done in cc in
       (m, e, rw same at s.played))
 
-  pub tried-failed : Tries o n p out at p' standing' empty' out' Failed → o ≡ none
+  pub tried-failed : Tries o n p out at p' standing' empty' out' None → o ≡ none
   tried-failed h = by-option o (λ e. e) (λ m e. let z = (h.succeeds m e).done in never (cc))
 
-  pub proceeds-none : o ≡ none → p' ≡ p → Proceeds o n p out at p' standing' empty' out' Failed
+  pub proceeds-none : o ≡ none → p' ≡ p → Proceeds o n p out at p' standing' empty' out' None
   proceeds-none e u = record { tries = tries-none e; still = λ d. u }
 
-  pub proceeds-some : {r : Tally} {m : Made} → o ≡ some m → Tallied m n p p' standing' empty' out at out' r → Proceeds o n p out at p' standing' empty' out' (Done r)
+  pub proceeds-some : {r : Tally} {m : Made} → o ≡ some m → Tallied m n p p' standing' empty' out at out' r → Proceeds o n p out at p' standing' empty' out' (Some r)
   proceeds-some e s = record { tries = tries-some e s; still = λ d. never (cc) }
 
 module _ {o : Option Made} {n : ℕ} {p standing empty out : List ℕ} {at : Tally} {p' standing' empty' out' : List ℕ} where
-  pub acts-none : o ≡ none → Unchanged p standing empty out p' standing' empty' out' → Acts o n p standing empty out at p' standing' empty' out' Failed
+  pub acts-none : o ≡ none → Unchanged p standing empty out p' standing' empty' out' → Acts o n p standing empty out at p' standing' empty' out' None
   acts-none e u = record { fails = λ d. (refl, u); succeeds = λ m d. never-some m (sym e ∙ d) }
 
-  pub acts-some : {r : Tally} {m : Made} → o ≡ some m → Tallied m n p p' standing' empty' out at out' r → Acts o n p standing empty out at p' standing' empty' out' (Done r)
+  pub acts-some : {r : Tally} {m : Made} → o ≡ some m → Tallied m n p p' standing' empty' out at out' r → Acts o n p standing empty out at p' standing' empty' out' (Some r)
   acts-some {r} {m} e s = record {
     fails = λ d. never-some m (sym d ∙ e);
     succeeds = λ k d. let same : m ≡ k = some_same (sym e ∙ d) in record { count = r; done = refl; played = rw same at s };
@@ -140,22 +139,22 @@ module _ {o : Option Made} {n : ℕ} {p standing empty out : List ℕ} {at : Tal
   pub acts-tries : {r : Tried} → Acts o n p standing empty out at p' standing' empty' out' r → Tries o n p out at p' standing' empty' out' r
   acts-tries h = record { fails = λ d. (h.fails d).0; succeeds = h.succeeds }
 
-  pub acted-done : {r : Tally} → Acts o n p standing empty out at p' standing' empty' out' (Done r) → (m : Made) × (o ≡ some m) × Tallied m n p p' standing' empty' out at out' r
+  pub acted-done : {r : Tally} → Acts o n p standing empty out at p' standing' empty' out' (Some r) → (m : Made) × (o ≡ some m) × Tallied m n p p' standing' empty' out at out' r
   acted-done h = tried-done (acts-tries h)
 
-  pub acted-failed : Acts o n p standing empty out at p' standing' empty' out' Failed → o ≡ none
+  pub acted-failed : Acts o n p standing empty out at p' standing' empty' out' None → o ≡ none
   acted-failed h = tried-failed (acts-tries h)
 
 -- ## Vacating, by its tally
 
-counted-after : (Y : Yard) (v : Vacated) (r : Tally) → Counts Y v (Done r) → count_after v ≡ some r.crossings
+counted-after : (Y : Yard) (v : Vacated) (r : Tally) → Counts Y v (Some r) → count_after v ≡ some r.crossings
 counted-after Y Empty r c = let same : nothing ≡ r = cc in ap (λ (z : Tally). some z.crossings) same
 counted-after Y (Filled e m) r c = let same : c.0 ≡ r = let z = c.1 in cc in let z = rw same at c.2 in rw z
 counted-after Y NotVacated r c = never (cc)
 
 module _ {n : ℕ} {table held : List ℕ} {s : Shown n table held} {x : Bay} {p standing empty out p' standing' empty' out' : List ℕ} where
   -- what is made, up to the tally that the answer carries
-  room-made : (v : Vacated) (r : Tally) → Vacates s x p standing empty out p' standing' empty' out' v → count_after v ≡ some r.crossings → Counts s.yard v (Done r)
+  room-made : (v : Vacated) (r : Tally) → Vacates s x p standing empty out p' standing' empty' out' v → count_after v ≡ some r.crossings → Counts s.yard v (Some r)
       → (m : Made) × (vacate s.yard s.bays x p ≡ some m) × Tallied m n p p' standing' empty' out nothing out' r
   room-made Empty r h e c =
       let w = answered-count h e in
@@ -198,18 +197,18 @@ module _ {n : ℕ} {table held : List ℕ} {s : Shown n table held} {x : Bay} {p
       )
   room-made NotVacated r h e c = never-some r.crossings e
 
-  not_made : (v : Vacated) → Vacates s x p standing empty out p' standing' empty' out' v → Counts s.yard v Failed → vacate s.yard s.bays x p ≡ none
+  not_made : (v : Vacated) → Vacates s x p standing empty out p' standing' empty' out' v → Counts s.yard v None → vacate s.yard s.bays x p ≡ none
   not_made Empty h c = never (cc)
   not_made (Filled e m) h c = let z = c.1 in never (cc)
   not_made NotVacated h c = none_from (λ (m : Made). m.moves) _ (answered-failed h)
 
   pub room-acts : (v : Vacated) (r : Tried) → Vacates s x p standing empty out p' standing' empty' out' v → Counts s.yard v r → Acts (vacate s.yard s.bays x p) n p standing empty out nothing p' standing' empty' out' r
-  room-acts v Failed h c = let z = not_made v h c in acts-none z (h.acted.fails (rw z))
-  room-acts v (Done r) h c = let w = room-made v r h (counted-after s.yard v r c) c in acts-some w.1 w.2
+  room-acts v None h c = let z = not_made v h c in acts-none z (h.acted.fails (rw z))
+  room-acts v (Some r) h c = let w = room-made v r h (counted-after s.yard v r c) c in acts-some w.1 w.2
 
   pub room_within : n ≤ span → (v : Vacated) (r : Tried) → Vacates s x p standing empty out p' standing' empty' out' v → Counts s.yard v r → Within nothing span r
-  room_within most v Failed h c = tt
-  room_within most v (Done r) h c =
+  room_within most v None h c = tt
+  room_within most v (Some r) h c =
       let w = answered-count h (counted-after s.yard v r c) in
       omega (arith, most, w.2.counted, h.short w.0 w.1)
 

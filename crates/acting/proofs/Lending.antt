@@ -1,6 +1,7 @@
 -- An action is lent the rest of the list and counts from nothing. What it stored there stands in the whole list behind what was counted before, and
 -- the sum is the tally of both.
 -- Assumes nothing.
+use Rattle.std.proofs.Common.{Some}
 use mathlib.Core.Path.{◌≡◌, sym, ◌∙◌, ap, refl}
 use mathlib.Core.List.{List, ◌++◌, map}
 use mathlib.Core.Option.{Option}
@@ -13,7 +14,6 @@ use Rattle.paper.specs.Yard.{pack}
 use Rattle.moving.specs.Placed.{Stored}
 use Rattle.acting.specs.Acting.{nothing, Added, Tallied, Tries}
 use Rattle.acting.specs.declared.Tally.{Tally}
-use Rattle.acting.specs.declared.Tried.TheVariants.{Done}
 use Rattle.acting.proofs.Acting.{tries-some, tried-done}
 
 -- The list `out` was lent from where it goes on, or from its end; that part of it is `rest` afterwards, and the whole is `out'`. What was counted
@@ -59,5 +59,5 @@ module _ {out rest : List ℕ} {at more : Tally} {out' : List ℕ} {sum : Tally}
       }
 
   -- the action that succeeded in the rest succeeded in the whole
-  pub tries-on-the-rest : {o : Option Made} {n : ℕ} {p p' standing' empty' lent : List ℕ} → Tries o n p lent nothing p' standing' empty' rest (Done more) → Tries o n p out at p' standing' empty' out' (Done sum)
+  pub tries-on-the-rest : {o : Option Made} {n : ℕ} {p p' standing' empty' lent : List ℕ} → Tries o n p lent nothing p' standing' empty' rest (Some more) → Tries o n p out at p' standing' empty' out' (Some sum)
   tries-on-the-rest t = let d = tried-done t in tries-some d.1 (on-the-rest d.2)

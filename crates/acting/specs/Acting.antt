@@ -1,6 +1,6 @@
 -- What actions in code are lent and what they answer: what the paper's action makes was played and counted, or the action failed.
 -- Assumes nothing.
-use Rattle.std.specs.Prelude.{◌≡◌, Bool, List, [], ◌∷◌, map, ℕ, min, ◌≤◌, ◌<◌, ◌+◌, ◌*◌, ◌^◌, length}
+use Rattle.std.specs.Prelude.{◌≡◌, Bool, List, [], ◌∷◌, map, ℕ, min, ◌≤◌, ◌<◌, ◌+◌, ◌*◌, ◌^◌, length, None, Some}
 use Rattle.std.proofs.Math.Option.{Option, none, some}
 use Rattle.paper.specs.Basics.{elem}
 use Rattle.paper.specs.Procedure.{Made, Action, only, parking, vacate}
@@ -14,8 +14,7 @@ use Rattle.moving.specs.Placed.{Placed, Stored, Unchanged}
 use Rattle.vacate.specs.declared.Vacated.{Vacated}
 use Rattle.vacate.specs.declared.Vacated.TheVariants.{Empty, Filled, Failed as NotVacated}
 use Rattle.acting.specs.declared.Tally.{Tally}
-use Rattle.acting.specs.declared.Tried.TheVariants.{Done, Failed}
-use Rattle.acting.specs.declared.Tried.{Tried}
+use Rattle.acting.specs.Tried.{Tried}
 
 -- the table is that of some yard
 pub record Tabled (n : ℕ) (table : List ℕ) : Type 0 where
@@ -69,9 +68,9 @@ FilledIn n NotVacated = Unit {0}
 
 -- the tally of a vacate
 abbrev pub Counts : Yard → Vacated → Tried → Type 0
-Counts Y Empty r = r ≡ Done nothing
-Counts Y (Filled e m) r = (k : Tally) × (r ≡ Done k) × (k.crossings ≡ m) × (k.parked ≡ parks Y e.0)
-Counts Y NotVacated r = r ≡ Failed
+Counts Y Empty r = r ≡ Some nothing
+Counts Y (Filled e m) r = (k : Tally) × (r ≡ Some k) × (k.crossings ≡ m) × (k.parked ≡ parks Y e.0)
+Counts Y NotVacated r = r ≡ None
 
 -- What is made was played on p, counted from `at` on, and stored where there is room for all of it.
 pub record Tallied (m : Made) (n : ℕ) (p p' standing' empty' out : List ℕ) (at : Tally) (out' : List ℕ) (r : Tally) : Type 0 where
@@ -85,30 +84,30 @@ pub record Tallied (m : Made) (n : ℕ) (p p' standing' empty' out : List ℕ) (
 
 -- at most k crossings were counted
 abbrev pub Within : Tally → ℕ → Tried → Type 0
-Within at k Failed = Unit {0}
-Within at k (Done m) = m.crossings ≤ at.crossings + k
+Within at k None = Unit {0}
+Within at k (Some m) = m.crossings ≤ at.crossings + k
 
 -- ## Acting
 
 pub record Succeeded (m : Made) (n : ℕ) (p p' standing' empty' out : List ℕ) (at : Tally) (out' : List ℕ) (r : Tried) : Type 0 where
   pub count : Tally
-  pub done : r ≡ Done count
+  pub done : r ≡ Some count
   pub played : Tallied m n p p' standing' empty' out at out' count
 
 -- As the paper's action: where it fails nothing is changed, and else what it makes was played.
 pub record Acts (o : Option Made) (n : ℕ) (p standing empty out : List ℕ) (at : Tally) (p' standing' empty' out' : List ℕ) (r : Tried) : Type 0 where
-  pub fails : o ≡ none → (r ≡ Failed) × Unchanged p standing empty out p' standing' empty' out'
+  pub fails : o ≡ none → (r ≡ None) × Unchanged p standing empty out p' standing' empty' out'
   pub succeeds : (m : Made) → o ≡ some m → Succeeded m n p p' standing' empty' out at out' r
 
 -- The same on lists that are used up: where it fails nothing is said of them.
 pub record Tries (o : Option Made) (n : ℕ) (p out : List ℕ) (at : Tally) (p' standing' empty' out' : List ℕ) (r : Tried) : Type 0 where
-  pub fails : o ≡ none → r ≡ Failed
+  pub fails : o ≡ none → r ≡ None
   pub succeeds : (m : Made) → o ≡ some m → Succeeded m n p p' standing' empty' out at out' r
 
 -- The same where nobody has moved if it fails. What was tried may be left in the list then.
 pub record Proceeds (o : Option Made) (n : ℕ) (p out : List ℕ) (at : Tally) (p' standing' empty' out' : List ℕ) (r : Tried) : Type 0 where
   pub tries : Tries o n p out at p' standing' empty' out' r
-  pub still : r ≡ Failed → p' ≡ p
+  pub still : r ≡ None → p' ≡ p
 
 -- ## In the yard that the table shows
 

@@ -25,13 +25,6 @@ pub const NOTHING: Tally = Tally {
     parked: 0,
 };
 
-// What was made, or that it could not be done.
-#[derive(Clone, Copy)]
-pub enum Tried {
-    Done(Tally),
-    Failed,
-}
-
 // Whether three rails or more lead to v.
 pub fn is_junction(table: &[u64], n: usize, v: Bay) -> bool
     requires { (n ≤ span) × (v.0 < n) × (n * words ≤ length table.now) }
@@ -99,14 +92,14 @@ fn tally_filled(table: &[u64], n: usize, e: Bay, crossings: usize) -> Tally
 }
 
 // Vacating, by its tally.
-fn counted(table: &[u64], n: usize, answer: Vacated) -> Tried
+fn counted(table: &[u64], n: usize, answer: Vacated) -> Option<Tally>
     requires { (n ≤ span) × (n * words ≤ length table.now) × FilledIn n answer }
     ensures { (t : Tabled n table.now) → Counts t.yard answer result }
 {
     match answer {
-        Vacated::Empty => Tried::Done(NOTHING),
-        Vacated::Filled(e, m) => Tried::Done(tally_filled(table, n, e, m)),
-        Vacated::Failed => Tried::Failed,
+        Vacated::Empty => Some(NOTHING),
+        Vacated::Filled(e, m) => Some(tally_filled(table, n, e, m)),
+        Vacated::Failed => None,
     }
 }
 
@@ -119,7 +112,7 @@ pub fn make_room(
     standing: &mut [u16],
     empty: &mut [u64],
     out: &mut [u64],
-) -> Tried
+) -> Option<Tally>
     requires ready { Ready table.now placement.old standing.old empty.old }
     requires room_asks { RoomAsks table.now held.now x.0 standing.old }
     ensures { RoomSays table.now held.now x.0

@@ -43,26 +43,23 @@ module _ (plan marks : List ℕ) (len : length marks ≡ length plan) (i : ℕ) 
 -- ## The placement
 
 pub record Moving (plan marks : List ℕ) (at₀ at : Placement) (i : ℕ) : Type 0 where
-  pub within : i ≤ length plan
   pub long : length at ≡ length at₀
   pub whole : after at (rest plan marks i) ≡ after at₀ (rest plan marks 0)
 
 pub moving-start : (plan marks : List ℕ) (at : Placement) → Moving plan marks at at 0
-moving-start plan marks at = record { within = omega arith; long = refl; whole = refl }
+moving-start plan marks at = record { long = refl; whole = refl }
 
 module _ (plan marks : List ℕ) (len : length marks ≡ length plan) (at₀ at : Placement) (i : ℕ) (m : Moving plan marks at₀ at i) where
   module _ (more : i < length plan) where
     pub moving-done : get_or marks i 0 ≡ 1 → (x : Crossing) → x ≡ named (crossings plan) i → Moving plan marks at₀ (move at x) (i + 1)
     unfolding after
     moving-done e x is = record {
-      within = omega arith;
       long = length-set at x.carrier x.to ∙ m.long;
       whole = ap (after at) (ap (λ y. y ∷ rest plan marks (i + 1)) is ∙ sym (rest-done plan marks len i more e)) ∙ m.whole;
     }
 
     pub moving-undone : (get_or marks i 0 ≡ 1 → ⊥) → Moving plan marks at₀ at (i + 1)
     moving-undone u = record {
-      within = omega arith;
       long = m.long;
       whole = ap (after at) (sym (rest-undone plan marks len i more u)) ∙ m.whole;
     }
@@ -74,7 +71,6 @@ module _ (plan marks : List ℕ) (len : length marks ≡ length plan) (at₀ at 
 -- ## How many
 
 pub record Counting (plan marks : List ℕ) (count i : ℕ) : Type 0 where
-  pub within : i ≤ length plan
   pub low : count ≤ i
   pub whole : count + length (rest plan marks i) ≡ length (rest plan marks 0)
 
@@ -82,14 +78,12 @@ module _ (plan marks : List ℕ) (len : length marks ≡ length plan) (count i :
   module _ (more : i < length plan) where
     pub counting-done : get_or marks i 0 ≡ 1 → Counting plan marks (count + 1) (i + 1)
     counting-done e = record {
-      within = omega arith;
       low = omega (arith, k.low);
       whole = let r = ap length (rest-done plan marks len i more e) in omega (arith, r, k.whole);
     }
 
     pub counting-undone : (get_or marks i 0 ≡ 1 → ⊥) → Counting plan marks count (i + 1)
     counting-undone u = record {
-      within = omega arith;
       low = omega (arith, k.low);
       whole = let r = ap length (rest-undone plan marks len i more u) in omega (arith, r, k.whole);
     }
@@ -104,7 +98,6 @@ abbrev pub last_from : List ℕ → List ℕ → Carrier → ℕ → ℕ → ℕ
 last_from plan marks c last i = last_done c last i (drop i (crossings plan)) (drop i marks)
 
 pub record Billing (plan marks billed last : List ℕ) (i : ℕ) : Type 0 where
-  pub within : i ≤ length plan
   pub all_billed : length billed ≡ most_bays
   pub all-last : length last ≡ most_bays
   pub low : (c : Carrier) → get_or billed c 0 ≤ i
@@ -113,7 +106,6 @@ pub record Billing (plan marks billed last : List ℕ) (i : ℕ) : Type 0 where
 
 pub billing-start : (plan marks : List ℕ) → Billing plan marks (replicate most_bays 0) (replicate most_bays untouched) 0
 billing-start plan marks = record {
-  within = omega arith;
   all_billed = length-replicate {A = ℕ} most_bays 0;
   all-last = length-replicate {A = ℕ} most_bays untouched;
   low = low_zeros most_bays;
@@ -147,7 +139,6 @@ module _ (plan marks : List ℕ) (len : length marks ≡ length plan) (billed la
         let hb : x.carrier < length billed = rw b.all_billed small in
         let hl : x.carrier < length last = rw b.all-last small in
         record {
-          within = omega arith;
           all_billed = length-set billed x.carrier _ ∙ b.all_billed;
           all-last = length-set last x.carrier i ∙ b.all-last;
           low = let l = b.low x.carrier in low-set billed x.carrier _ i (i + 1) b.low (omega arith) (omega arith);
@@ -187,7 +178,6 @@ module _ (plan marks : List ℕ) (len : length marks ≡ length plan) (billed la
     pub billing-undone : (get_or marks i 0 ≡ 1 → ⊥) → Billing plan marks billed last (i + 1)
     unfolding ◌and◌
     billing-undone u = record {
-      within = omega arith;
       all_billed = b.all_billed;
       all-last = b.all-last;
       low = λ c. let l = b.low c in omega arith;

@@ -4,6 +4,8 @@ use mathlib.Core.Path.{◌≡◌}
 use mathlib.Core.List.{List}
 use Prim.Native.Nat.{ℕ, ◌≤◌, ◌<◌, ◌+◌, max}
 use native.Mathlib.Omega.{arith}
+use mathlib.Core.Bool.{true, false}
+use borrow.Author.Tests.{eq-eqb, ne_eqb}
 use lib.Dec.{eqb}
 use lib.ListN.{length, get_or, set, replicate}
 use Rattle.paper.specs.Limits.{most_bays}
@@ -37,25 +39,28 @@ working-start plan marks name at short = record {
 module _ (plan marks : List ℕ) (len : length marks ≡ length plan) (fits : Fits most_bays most_bays plan) (name : ℕ) (at : Placement) (long : length at ≡ most_bays)
     (billed last carriers bays : List ℕ) (highest asked i : ℕ) (w : Working plan marks name at billed last carriers bays highest asked i) where
   module _ (more : i < length plan) (x : Crossing) (is : x ≡ named (crossings plan) i) (s : ℕ) (carriers' bays' : List ℕ) (turned : Turned carriers bays x s carriers' bays')
-      (kept : ℕ) (k : kept ≡ (if eqb name i then s else asked)) (high : ℕ) (e : high ≡ (if done (get_or marks i 0) then max highest s else highest)) where
+      (kept : ℕ) (k : kept ≡ (if eqb name i then s else asked)) where
     pub working-done : get_or marks i 0 ≡ 1
-        → Working plan marks name at (set billed x.carrier (get_or billed x.carrier 0 + 1)) (set last x.carrier i) carriers' bays' high kept (i + 1)
+        → Working plan marks name at (set billed x.carrier (get_or billed x.carrier 0 + 1)) (set last x.carrier i) carriers' bays' (max highest s) kept (i + 1)
     working-done d =
+        let counts : done (get_or marks i 0) ≡ true = eq-eqb _ _ d in
         let small = (fits-named most_bays most_bays plan fits i more x is).0 in
         record {
-          rising = rising-on plan marks carriers bays highest i w.rising more len fits x is s carriers' bays' turned high e;
+          rising = rising-on plan marks carriers bays highest i w.rising more len fits x is s carriers' bays' turned (max highest s) (rw counts);
           asking = asking-on plan name carriers bays asked i w.asking fits x is s carriers' bays' turned kept k;
           billing = billing-done plan marks len billed last i w.billing more d x is small;
           standing = standing-done plan marks len at long last w.billing.all-last i w.standing more d x is small;
         }
 
-    pub working-undone : (get_or marks i 0 ≡ 1 → ⊥) → Working plan marks name at billed last carriers' bays' high kept (i + 1)
-    working-undone u = record {
-      rising = rising-on plan marks carriers bays highest i w.rising more len fits x is s carriers' bays' turned high e;
-      asking = asking-on plan name carriers bays asked i w.asking fits x is s carriers' bays' turned kept k;
-      billing = billing-undone plan marks len billed last i w.billing more u;
-      standing = standing-undone plan marks len at long last w.billing.all-last i w.standing more u;
-    }
+    pub working-undone : (get_or marks i 0 ≡ 1 → ⊥) → Working plan marks name at billed last carriers' bays' highest kept (i + 1)
+    working-undone u =
+        let counts_not : done (get_or marks i 0) ≡ false = ne_eqb _ _ u in
+        record {
+          rising = rising-on plan marks carriers bays highest i w.rising more len fits x is s carriers' bays' turned highest (rw counts_not);
+          asking = asking-on plan name carriers bays asked i w.asking fits x is s carriers' bays' turned kept k;
+          billing = billing-undone plan marks len billed last i w.billing more u;
+          standing = standing-undone plan marks len at long last w.billing.all-last i w.standing more u;
+        }
 
   pub working-end : length plan ≤ i → (at' : Placement) → Led plan last at at'
       → Billed plan marks name at at' billed last (record { highest = highest; asked = asked })

@@ -9,7 +9,6 @@ ghost use Rattle.afresh.specs.Working.{SlotOf};
 ghost use Rattle.agreeing.specs.Statements.{Fit, all_same, WorkedOut};
 
 use bills::{Record, UNTOUCHED};
-use checker::Checked;
 use docket::Refusal;
 use held_lines::HeldLines;
 use yard::Yard;
@@ -30,7 +29,7 @@ pub fn work_out(start: &[u16], plan: &[u64], marks: &[u8], name: usize) -> Fresh
     let mut at = [0u16; Yard::BAYS];
     let mut billed = [0u32; Yard::BAYS];
     let mut last = [UNTOUCHED; Yard::BAYS];
-    copies::shorts(&mut at, start);
+    copies::copy(&mut at, start);
     let slots = afresh::bill_done(plan, marks, name, &mut at, &mut billed, &mut last);
     let done = afresh::count_done(plan, marks);
     let held = held_lines::list_lines(start.len(), &billed, &last);
@@ -89,16 +88,13 @@ pub fn up_to_eleven(
     goal: &[u16],
     plan: &[u64],
     marks: &[u8],
-) -> Checked
+) -> Result<(), Refusal>
     ensures { checked_of result ≡ up_to_eleven (order bays rails.now start.now goal.now)
         plan.now marks.now }
 {
-    let checked = checker::check(bays, rails, start, goal, plan);
-    if let Checked::Refused(r) = checked {
-        return Checked::Refused(r);
-    }
+    checker::check(bays, rails, start, goal, plan)?;
     if mark_order::bad_marks(plan, marks) {
-        return Checked::Refused(Refusal::Mismarked);
+        return Err(Refusal::Mismarked);
     }
-    Checked::Passed
+    Ok(())
 }

@@ -1,5 +1,7 @@
 -- The path found is the paper's: it leads from r's bay over rails to its goal. Where there is none, or r cannot go it, the paper is stuck too.
 -- Assumes nothing.
+use Rattle.std.proofs.lemmas.Option.{same_Some}
+use Rattle.std.proofs.Common.{None, Some}
 use Rattle.std.specs.Prelude.{if◌then◌else◌}
 use mathlib.Core.Path.{◌≡◌, sym, ◌∙◌, ap, refl}
 use mathlib.Core.Bool.{true, false}
@@ -23,20 +25,17 @@ use Rattle.words.specs.Sets.{mem, span, words}
 use Rattle.words.proofs.Sets.{zeros}
 use Rattle.rings.specs.Search.{Shown}
 use Rattle.rings.specs.Ways.{PathFound, path_length, path_of as paths_of}
-use Rattle.rings.specs.declared.Path.{Path}
-use Rattle.rings.specs.declared.Path.TheVariants.{First}
+use Rattle.rings.specs.Path.{Path}
 use Rattle.rings.proofs.Searching.{elem-append, elem-one}
 use Rattle.moving.specs.Bounds.{swap_most}
 use Rattle.moving.specs.Placed.{Placed}
 use Rattle.acting.specs.Acting.{Tabled, Ready, Tallied, Tries, nothing}
 use Rattle.acting.specs.declared.Tally.{Tally}
-use Rattle.acting.specs.declared.Tried.TheVariants.{Done}
 use Rattle.acting.proofs.Acting.{tried-done}
 use Rattle.go.proofs.FromBelow.{in-bays}
 use Rattle.go.specs.FromBelow.{Loopless, BaysBelow}
 use Rattle.along.specs.Along.{Goals, HomeBelow, EndsAt, OnPath, PathPast, PathPastSays, TurnAsks, GoalAsks, Goes, Arrives}
 use Rattle.along.specs.declared.ToGoal.{ToGoal}
-use Rattle.along.specs.declared.Gone.TheVariants.{There, Nowhere}
 
 -- ## The path in its room
 
@@ -134,34 +133,36 @@ carried-nowhere Y goals r p e = rw (← e)
 
 module _ {Y : Yard} {goals : Placement} {r : Carrier} {n : ℕ} {p out p' standing' empty' out' room : List ℕ} where
   pub went-there : {k : ℕ} {m : Tally} (a : Made) → some (take k room) ≡ path_of Y goals r p → plan_of (go Y goals r (take (k - 1) (drop 1 room)) p) ≡ some a
-      → Tallied a n p p' standing' empty' out nothing out' m → Goes Y goals r n p out p' standing' empty' out' room (There k m)
+      → Tallied a n p p' standing' empty' out nothing out' m → Goes Y goals r n p out p' standing' empty' out' room (Some (k, m))
   went-there {k} {m} a short e w = record {
     there = λ j b d.
-        let same : k ≡ j = cc in
-        let same-m : m ≡ b = cc in
+        let q = same_Some _ _ d in
+        let same : k ≡ j = ap (λ t. t.0) q in
+        let same-m : m ≡ b = ap (λ t. t.1) q in
         rw (← same, ← same-m) (record { path = short; made = a; goes = rw (part-ahead k room) at e; played = w });
     nowhere = λ d. never (cc);
   }
 
-  pub went-nowhere : carry Y goals r p ≡ stuck r → Goes Y goals r n p out p' standing' empty' out' room Nowhere
+  pub went-nowhere : carry Y goals r p ≡ stuck r → Goes Y goals r n p out p' standing' empty' out' room None
   went-nowhere e = record { there = λ j b d. never (cc); nowhere = λ d. e }
 
 module _ {n : ℕ} {r : Carrier} {p settled : List ℕ} where
-  pub arrives : {k : ℕ} {m : Tally} → k ≤ n → m.crossings ≤ swap_most * k → BaysBelow (r + 1) p settled → Arrives n r p settled (There k m)
+  pub arrives : {k : ℕ} {m : Tally} → k ≤ n → m.crossings ≤ swap_most * k → BaysBelow (r + 1) p settled → Arrives n r p settled (Some (k, m))
   arrives {k} {m} fits few below = record {
-    fits = λ j b d. let same : k ≡ j = cc in rw same at fits;
+    fits = λ j b d. let same : k ≡ j = ap (λ t. t.0) (same_Some _ _ d) in rw same at fits;
     few = λ j b d.
-        let same : k ≡ j = cc in
-        let same-m : m ≡ b = cc in
+        let q = same_Some _ _ d in
+        let same : k ≡ j = ap (λ t. t.0) q in
+        let same-m : m ≡ b = ap (λ t. t.1) q in
         rw (same, same-m) at few;
     below = λ j b d. below;
   }
 
-  pub arrives-nowhere : Arrives n r p settled Nowhere
+  pub arrives-nowhere : Arrives n r p settled None
   arrives-nowhere = record { fits = λ j b d. never (cc); few = λ j b d. never (cc); below = λ j b d. never (cc) }
 
 -- whoever tried is among the bays afterwards
-pub bay-after : {o : Option Made} {n : ℕ} {p out : List ℕ} {at m : Tally} {p' standing' empty' out' : List ℕ} → Tries o n p out at p' standing' empty' out' (Done m)
+pub bay-after : {o : Option Made} {n : ℕ} {p out : List ℕ} {at m : Tally} {p' standing' empty' out' : List ℕ} → Tries o n p out at p' standing' empty' out' (Some m)
     → (c : Carrier) → c < length p' → bay_of p' c < n
 bay-after tries = (tried-done tries).2.placed.inside
 
@@ -180,7 +181,7 @@ module _ {table p standing settled : List ℕ} (t : Tabled (length standing) tab
   pub way-fits : {room : List ℕ} {z : Path} → PathPastSays (length standing) table settled (bay_of p r) to.goal.0 room z → path_length z ≤ length standing
   way-fits past = (past (settled_shown t r p turn.below)).fits
 
-  pub way-short : {room : List ℕ} {m : ℕ} → PathPastSays (length standing) table settled (bay_of p r) to.goal.0 room (First m)
+  pub way-short : {room : List ℕ} {m : ℕ} → PathPastSays (length standing) table settled (bay_of p r) to.goal.0 room (Some m)
       → length (take (m - 1) (drop 1 room)) ≤ m
   way-short {room} {m} past = omega (arith, length-take (m - 1) (drop 1 room))
 
@@ -190,7 +191,7 @@ module _ {table p standing settled : List ℕ} (t : Tabled (length standing) tab
       way_of = on_path t ready.most turn.loopless b.goals r p ready.placed b.each turn.carrier_there b.below (take m room) short
 
     -- the path that was found has m bays
-    module _ {room : List ℕ} {m : ℕ} (past : PathPastSays (length standing) table settled (bay_of p r) to.goal.0 room (First m)) where
+    module _ {room : List ℕ} {m : ℕ} (past : PathPastSays (length standing) table settled (bay_of p r) to.goal.0 room (Some m)) where
       abbrev found : OnPath (length standing) table (bay_of p r) (bay_of b.goals r) (take m room)
       found = way_of room m (way-there b past)
 

@@ -1,6 +1,6 @@
 -- What a carrier's turn asks, and what going its path says: distinct goals among the bays, one for each carrier; the finished ones at home; a path.
 -- Assumes nothing.
-use Rattle.std.specs.Prelude.{Bool, ◌≡◌, List, [], ◌∷◌, ℕ, ◌+◌, ◌*◌, ◌≤◌, ◌<◌, length, take, drop, if◌then◌else◌}
+use Rattle.std.specs.Prelude.{Bool, ◌≡◌, List, [], ◌∷◌, ℕ, ◌+◌, ◌*◌, ◌≤◌, ◌<◌, length, take, drop, if◌then◌else◌, None, Some}
 use Rattle.std.proofs.Math.Option.{some}
 use Rattle.paper.specs.Basics.{NoDup}
 use Rattle.paper.specs.Path.{path_between}
@@ -9,7 +9,7 @@ use Rattle.paper.specs.Yard.{Bay, Carrier, Yard, Placement, bay_of, carousel}
 use Rattle.paper.proofs.Playing.{Apart}
 use Rattle.rings.specs.Search.{Shown}
 use Rattle.rings.specs.Ways.{path_of, path_length}
-use Rattle.rings.specs.declared.Path.{Path}
+use Rattle.rings.specs.Path.{Path}
 use Rattle.yard.specs.Table.{Table}
 use Rattle.moving.specs.Bounds.{swap_most}
 use Rattle.acting.specs.Acting.{Tabled, Tallied, nothing}
@@ -17,8 +17,7 @@ use Rattle.acting.specs.declared.Tally.{Tally}
 use Rattle.go.specs.FromBelow.{Loopless, BaysBelow}
 use Rattle.go.specs.Going.{plan_of, Linked}
 use Rattle.along.specs.declared.ToGoal.{ToGoal}
-use Rattle.along.specs.declared.Gone.{Gone}
-use Rattle.along.specs.declared.Gone.TheVariants.{There, Nowhere}
+use Rattle.along.specs.Gone.{Gone}
 
 -- a goal for each carrier, each among the n bays and no two the same
 pub record Goals (n : ℕ) (goals p : List ℕ) : Type 0 where
@@ -84,14 +83,14 @@ pub record GoesThere (Y : Yard) (goals : Placement) (r : Carrier) (n : ℕ) (p o
 
 -- it has gone there, or it is stuck
 pub record Goes (Y : Yard) (goals : Placement) (r : Carrier) (n : ℕ) (p out p' standing' empty' out' room : List ℕ) (z : Gone) : Type 0 where
-  pub there : (k : ℕ) (m : Tally) → z ≡ There k m → GoesThere Y goals r n p out p' standing' empty' out' room k m
-  pub nowhere : z ≡ Nowhere → carry Y goals r p ≡ stuck r
+  pub there : (k : ℕ) (m : Tally) → z ≡ Some (k, m) → GoesThere Y goals r n p out p' standing' empty' out' room k m
+  pub nowhere : z ≡ None → carry Y goals r p ≡ stuck r
 
 -- r is finished then, and the path is no longer than there are bays
 pub record Arrives (n : ℕ) (r : Carrier) (p settled : List ℕ) (z : Gone) : Type 0 where
-  pub fits : (k : ℕ) (m : Tally) → z ≡ There k m → k ≤ n
-  pub few : (k : ℕ) (m : Tally) → z ≡ There k m → m.crossings ≤ swap_most * k
-  pub below : (k : ℕ) (m : Tally) → z ≡ There k m → BaysBelow (r + 1) p settled
+  pub fits : (k : ℕ) (m : Tally) → z ≡ Some (k, m) → k ≤ n
+  pub few : (k : ℕ) (m : Tally) → z ≡ Some (k, m) → m.crossings ≤ swap_most * k
+  pub below : (k : ℕ) (m : Tally) → z ≡ Some (k, m) → BaysBelow (r + 1) p settled
 
 pub record GoAlongSays (to : ToGoal) (table p standing out p' standing' empty' settled' out' room : List ℕ) (z : Gone) : Type 0 where
   pub arrives : Arrives (length standing) to.carrier.0 p' settled' z

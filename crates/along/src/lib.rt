@@ -7,9 +7,8 @@ ghost use Rattle.rings.specs.Ways.{PathAsks};
 ghost use Rattle.acting.specs.Acting.{Ready};
 ghost use Rattle.along.specs.Along.{KindTold, PathPastSays, TurnAsks, GoalAsks, GoAlongSays};
 
-use acting::{Tally, Tried};
+use acting::Tally;
 use docket::{Bay, Carrier};
-use rings::Path;
 
 // A carrier whose turn it is: those below it are finished. With its goal, and whether the yard is a carousel, where its path leads past the finished
 // carriers.
@@ -18,13 +17,6 @@ pub struct ToGoal {
     pub carrier: Carrier,
     pub goal: Bay,
     pub in_carousel: bool,
-}
-
-// The number of bays on the path that the carrier has gone, and the tally of what was made; or it could not go there.
-#[derive(Clone, Copy)]
-pub enum Gone {
-    There(usize, Tally),
-    Nowhere,
 }
 
 // The shortest path from u to v past the bays avoided: in a carousel the settled ones, elsewhere none.
@@ -36,7 +28,7 @@ fn path_past(
     u: Bay,
     v: Bay,
     path: &mut [u16],
-) -> Path
+) -> Option<usize>
     requires path_asks { PathAsks n table.now settled.now path.old u.0 v.0 }
     requires kind_told { KindTold n table.now in_carousel }
     ensures { PathPastSays n table.now settled.now u.0 v.0 path.new result }
@@ -58,7 +50,7 @@ pub fn go_along(
     settled: &mut [u64],
     out: &mut [u64],
     path: &mut [u16],
-) -> Gone
+) -> Option<(usize, Tally)>
     requires ready { Ready table.now placement.old standing.old empty.old }
     requires turn_asks { TurnAsks to table.now placement.old standing.old settled.old }
     requires goal_asks { GoalAsks to placement.old standing.old }
@@ -71,21 +63,16 @@ pub fn go_along(
     let own = r.0 as usize;
     let n = standing.len();
     let u = Bay(placement[own]);
-    let Path::First(k) = path_past(table, n, to.in_carousel, settled, u, v, path) else {
-        return Gone::Nowhere;
-    };
+    let k = path_past(table, n, to.in_carousel, settled, u, v, path)?;
     if k < 1 {
-        return Gone::Nowhere;
+        return None;
     }
     let ahead = &path[1..k];
-    let gone = go::go(table, ahead, r, placement, standing, empty, settled, out);
-    let Tried::Done(done) = gone else {
-        return Gone::Nowhere;
-    };
+    let done = go::go(table, ahead, r, placement, standing, empty, settled, out)?;
     let made = Tally {
         crossings: done.crossings,
         parked: done.parked,
     };
     words::add(settled, placement[own] as usize);
-    Gone::There(k, made)
+    Some((k, made))
 }

@@ -1,14 +1,14 @@
 -- A set of one word: below 64 its bits are its bays, and past them it has none. So what holds of sets and rings holds of it.
-use mathlib.Core.Path.{◌≡◌, refl, sym, ap, ap₂, ◌∙◌}
+use mathlib.Core.Path.{◌≡◌, sym, ap, ap₂, ◌∙◌}
 use mathlib.Core.Bool.{true, false, not}
 use mathlib.Core.List.{List, [], ◌∷◌}
 use Prim.Native.Nat.{ℕ, ◌+◌, ◌-◌, ◌*◌, ◌/◌, ◌%◌, ◌^◌, ◌≤◌, ◌<◌}
-use native.Mathlib.Decide.{dec_lt, ℕ_discrete}
+use native.Mathlib.Decide.{dec_lt}
 use native.Mathlib.Omega.{arith}
-use lib.Bits.{bit_or, and_le_r}
+use lib.Bits.{bit_or}
 use lib.Count.{count_trailing_zeros, trailing_of_zero}
 use lib.Dec.{eqb}
-use lib.ListN.{length, get_or}
+use lib.ListN.{get_or}
 use borrow.Author.Tests.{ne_eqb}
 use Rattle.paper.specs.Basics.{◌and◌, ◌or◌}
 use Rattle.paper.specs.Yard.{Bay}
@@ -83,9 +83,6 @@ dry-word ring e = record {
   hit = λ h. absurd (omega arith);
   before = λ i a b. rw e (mem-zeros 1 i);
 }
-
-pub less-fits : (next seen : ℕ) → less_word next seen < 2 ^ 64
-less-fits next seen = omega (arith, and_le_r next (2 ^ 64 - 1 - seen))
 
 pub settled-word : (next seen : ℕ) → seen < 2 ^ 64 → Settled (next ∷ []) (seen ∷ []) (bit_or seen (less_word next seen) ∷ []) (less_word next seen ∷ [])
 unfolding ◌and◌ ◌or◌

@@ -10,7 +10,6 @@ ghost use Rattle.first_bad.specs.Table.{Table};
 ghost use Rattle.first_bad.specs.Finding.{Finds};
 ghost use Rattle.apart.specs.Reaching.{Closed, FirstWords, Reaches};
 
-use first_bad::Found;
 use words::{SPAN, WORDS};
 
 // The bays that are reached from bay 0, ring by ring: n rings are enough, and after an empty one there is no other.
@@ -22,26 +21,18 @@ fn reach(n: usize, table: &[u64], seen: &mut [u64])
     words::clear(seen);
     words::add(seen, 0);
     words::add(&mut ring, 0);
-    let mut d = 0;
-    while d < n {
+    for _ in 0..n {
         if words::next_from(&ring, 0) == SPAN {
             return;
         }
         let mut next = [0u64; WORDS];
         words::beside(table, &ring, &mut next);
         words::settle(&next, seen, &mut ring);
-        d += 1;
     }
 }
 
 // The bays that one word holds.
 const NARROW: usize = SPAN / WORDS;
-
-fn wide(x: u32) -> usize
-    ensures { result ≡ x }
-{
-    x as usize
-}
 
 // The bays that stand in the rows of a word's bays, where each row has all its bays in its first word.
 fn beside_word(table: &[u64], ring: u64) -> u64
@@ -51,9 +42,9 @@ fn beside_word(table: &[u64], ring: u64) -> u64
     let mut next: u64 = 0;
     let mut left = ring;
     while left != 0 {
-        let a = wide(u64::trailing_zeros(left));
-        next = next | table[a * WORDS];
-        left = left & (left - 1);
+        let a = left.trailing_zeros() as usize;
+        next |= table[a * WORDS];
+        left &= left - 1;
     }
     next
 }
@@ -65,34 +56,32 @@ fn reach_word(n: usize, table: &[u64]) -> u64
 {
     let mut seen: u64 = 1;
     let mut ring: u64 = 1;
-    let mut d = 0;
-    while d < n {
+    for _ in 0..n {
         if ring == 0 {
             return seen;
         }
         let next = beside_word(table, ring);
         ring = next & !seen;
-        seen = seen | ring;
-        d += 1;
+        seen |= ring;
     }
     seen
 }
 
 // As `lowest_apart`, in one word.
-fn narrow_apart(n: usize, table: &[u64]) -> Found
+fn narrow_apart(n: usize, table: &[u64]) -> Option<usize>
     requires { (0 < n) × (n * words ≤ span) × Closed n table.now }
     ensures { (Y : Yard) → Table Y n table.now → Finds (apart_bay Y) n result }
 {
     let seen = reach_word(n, table);
-    let first = wide(u64::trailing_zeros(!seen));
+    let first = (!seen).trailing_zeros() as usize;
     if first < n {
-        return Found::At(first);
+        return Some(first);
     }
-    Found::Nothing
+    None
 }
 
 // The lowest bay that is not reached from bay 0: of all that a set can hold, the reached ones are taken away.
-pub fn lowest_apart(n: usize, table: &[u64]) -> Found
+pub fn lowest_apart(n: usize, table: &[u64]) -> Option<usize>
     requires { (0 < n) × (n ≤ most_bays) × Closed n table.now }
     ensures { (Y : Yard) → Table Y n table.now → Finds (apart_bay Y) n result }
 {
@@ -105,7 +94,7 @@ pub fn lowest_apart(n: usize, table: &[u64]) -> Found
     words::minus(&mut left, &seen);
     let lowest = words::next_from(&left, 0);
     if lowest < n {
-        return Found::At(lowest);
+        return Some(lowest);
     }
-    Found::Nothing
+    None
 }

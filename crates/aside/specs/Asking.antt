@@ -5,7 +5,7 @@ use Rattle.paper.specs.Procedure.{aside}
 use Rattle.paper.specs.Yard.{Bay}
 use Rattle.moving.specs.Bounds.{clear_once_most}
 use Rattle.acting.specs.Acting.{nothing, Within, TriesAs}
-use Rattle.acting.specs.declared.Tried.{Tried}
+use Rattle.acting.specs.Tried.{Tried}
 use Rattle.aside.specs.declared.Aside.{Aside}
 
 -- the bays are in the yard

@@ -4,7 +4,7 @@
 ghost use Rattle.acting.specs.Acting.{Ready};
 ghost use Rattle.aside.specs.Asking.{AsideAsks, AsideSays};
 
-use acting::Tried;
+use acting::Tally;
 use docket::Bay;
 
 // What an attempt goes by besides x: the junction, the neighbour that is held with it, and the neighbour that is emptied after x.
@@ -24,7 +24,7 @@ pub fn vacate_both(
     standing: &mut [u16],
     empty: &mut [u64],
     out: &mut [u64],
-) -> Tried
+) -> Option<Tally>
     requires ready { Ready table.now placement.old standing.old empty.old }
     requires aside_asks { AsideAsks aside x.0 standing.old }
     ensures { AsideSays aside x.0
@@ -34,13 +34,10 @@ pub fn vacate_both(
     let mut held = [0u64; words::WORDS];
     words::alone(&mut held, aside.junction.0 as usize);
     words::join(&mut held, aside.held.0 as usize);
-    let vacated = acting::make_room(table, &held, x, placement, standing, empty, out);
-    let Tried::Done(made) = vacated else {
-        return Tried::Failed;
-    };
+    let made = acting::make_room(table, &held, x, placement, standing, empty, out)?;
     words::join(&mut held, x.0 as usize);
     let from = acting::place_in(out, made.crossings);
-    let emptied = acting::make_room(
+    let more = acting::make_room(
         table,
         &held,
         aside.emptied,
@@ -48,9 +45,6 @@ pub fn vacate_both(
         standing,
         empty,
         &mut out[from..],
-    );
-    let Tried::Done(more) = emptied else {
-        return Tried::Failed;
-    };
-    Tried::Done(acting::add(made, more))
+    )?;
+    Some(acting::add(made, more))
 }

@@ -1,5 +1,6 @@
 -- An attempt in code is the paper's: the two carriers go forth and back by one crossing each.
 -- Assumes nothing.
+use Rattle.std.proofs.Common.{None, Some}
 use mathlib.Core.Path.{◌≡◌, sym, ◌∙◌, ap, refl}
 use mathlib.Core.List.{List, [], ◌∷◌, map}
 use mathlib.Core.Option.{none, some}
@@ -20,7 +21,6 @@ use Rattle.words.specs.Sets.{mem, words, span, mem_row}
 use Rattle.moving.specs.Placed.{Placed}
 use Rattle.acting.specs.Acting.{Ready, Tabled, nothing, Tallied, Tries}
 use Rattle.acting.specs.declared.Tally.{Tally}
-use Rattle.acting.specs.declared.Tried.TheVariants.{Done, Failed}
 use Rattle.acting.proofs.Acting.{tallied-then, tries-some, tried-done, tried-failed}
 use Rattle.bring.specs.Bringing.{entering}
 use Rattle.attempts.specs.Attempting.{AtJunction, Logged}
@@ -93,7 +93,7 @@ module _ {n : ℕ} {table : List ℕ} (t : Tabled n table) {L M : Carrier} (diff
   vacated : (w : Bay) (ms : Made) → aside t.yard w e b x q ≡ some ms → Attempted t.yard w e b x q ms.moves
   vacated w ms h = aside-empties t.yard w e b x q ms forth.placed.apart (in-bays t hx) (in-bays t hb) h
 
-  module _ (v : Bay) {q' standing₂ empty₂ out₂ : List ℕ} {c : Tally} (s : Tries (aside t.yard v e b x q) n q out₁ a q' standing₂ empty₂ out₂ (Done c)) where
+  module _ (v : Bay) {q' standing₂ empty₂ out₂ : List ℕ} {c : Tally} (s : Tries (aside t.yard v e b x q) n q out₁ a q' standing₂ empty₂ out₂ (Some c)) where
     -- both are as many as before, and the follower's bay is empty
     pub round-ready : (L < length q') × (M < length q') × Out b q' × Placed n q' standing₂ empty₂
     round-ready =
@@ -102,7 +102,7 @@ module _ {n : ℕ} {table : List ℕ} (t : Tabled n table) {L M : Carrier} (diff
         (omega arith, omega arith, rw d.2.moved (vacated v d.0 d.1).empties-kept, d.2.placed)
 
     pub round-done : {p' standing' empty' out' : List ℕ} {r : Tally} → AtJunction L M v b p → Tallied (entering M L b q') n q' p' standing' empty' out₂ c out' r
-        → Tries (around t.yard L M v b e x p) n p out at p' standing' empty' out' (Done r)
+        → Tries (around t.yard L M v b e x p) n p out at p' standing' empty' out' (Some r)
     round-done j back =
         let d = tried-done s in
         let ms = d.0 in
@@ -114,7 +114,7 @@ module _ {n : ℕ} {table : List ℕ} (t : Tabled n table) {L M : Carrier} (diff
         let ends : entering M L b (after (after p (entering L M e p).moves) ms.moves) ≡ entering M L b q' = rw (← forth.moved, ← d.2.moved) in
         rw w (tries-some (runs ∙ ap (λ (z : Made). some (together (entering L M e p) (together ms z))) ends) (tallied-then forth (tallied-then d.2 back)))
 
-  pub round-fails : (v : Bay) {lent q' standing₂ empty₂ rest : List ℕ} → AtJunction L M v b p → Tries (aside t.yard v e b x q) n q lent nothing q' standing₂ empty₂ rest Failed
+  pub round-fails : (v : Bay) {lent q' standing₂ empty₂ rest : List ℕ} → AtJunction L M v b p → Tries (aside t.yard v e b x q) n q lent nothing q' standing₂ empty₂ rest None
       → around t.yard L M v b e x p ≡ none
   round-fails v j s =
       let w : v ≡ bay_of p L = sym j.at_v in

@@ -6,7 +6,7 @@ use Rattle.paper.specs.Procedure.{Action}
 use Rattle.paper.specs.Yard.{Bay, Yard, Placement}
 use Rattle.moving.specs.Bounds.{attempt_most}
 use Rattle.acting.specs.Acting.{Tabled, nothing, Within, Tries}
-use Rattle.acting.specs.declared.Tried.{Tried}
+use Rattle.acting.specs.Tried.{Tried}
 use Rattle.bring.specs.Bringing.{Coupled}
 use Rattle.attempts.specs.Attempting.{AtJunction, way_of}
 use Rattle.attempts.specs.declared.Lead.{Lead}

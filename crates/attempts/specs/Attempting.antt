@@ -1,13 +1,12 @@
 -- Attempts in code: the two ways, and what an attempt leaves in the log.
 -- Assumes nothing.
-use Rattle.std.specs.Prelude.{◌≡◌, Bool, true, false, List, map, ℕ, ◌≤◌, length, take}
+use Rattle.std.specs.Prelude.{◌≡◌, Bool, true, false, List, map, ℕ, ◌≤◌, length, take, None, Some}
 use Rattle.std.proofs.Math.Option.{Option, none, some}
 use Rattle.paper.specs.Yard.{Bay, Carrier, Yard, Placement, bay_of, pack}
 use Rattle.paper.specs.Procedure.{Made, Action, aside, around}
 use Rattle.acting.specs.Acting.{AsFar}
 use Rattle.acting.specs.declared.Tally.{Tally}
-use Rattle.acting.specs.declared.Tried.{Tried}
-use Rattle.acting.specs.declared.Tried.TheVariants.{Done, Failed}
+use Rattle.acting.specs.Tried.{Tried}
 
 -- the leader stands at v and the follower at b
 pub record AtJunction (L M : Carrier) (v b : Bay) (p : Placement) : Type 0 where
@@ -27,5 +26,5 @@ pub record Logged (made : Made) (log : List ℕ) (m : Tally) : Type 0 where
 
 -- as the paper's attempt: logged, or failed with nothing said of the log
 pub record Attempts (o : Option Made) (log : List ℕ) (r : Tried) : Type 0 where
-  pub fails : r ≡ Failed → o ≡ none
-  pub done : (m : Tally) → r ≡ Done m → (made : Made) × (o ≡ some made) × Logged made log m
+  pub fails : r ≡ None → o ≡ none
+  pub done : (m : Tally) → r ≡ Some m → (made : Made) × (o ≡ some made) × Logged made log m

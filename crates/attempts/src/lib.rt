@@ -6,7 +6,7 @@ ghost use Rattle.std.specs.Prelude.{◌≡◌, ◌≤◌, length, take};
 ghost use Rattle.acting.specs.Acting.{Ready};
 ghost use Rattle.attempts.specs.Asking.{AroundSays, AttemptAsks};
 
-use acting::Tried;
+use acting::Tally;
 use aside::Aside;
 use bring::Couple;
 use docket::Bay;
@@ -36,7 +36,7 @@ pub fn go_round(
     standing: &mut [u16],
     empty: &mut [u64],
     out: &mut [u64],
-) -> Tried
+) -> Option<Tally>
     requires ready { Ready table.now placement.old standing.old empty.old }
     requires attempt_asks { AttemptAsks one x.0 placement.old standing.old }
     ensures { AroundSays one x.0
@@ -55,17 +55,14 @@ pub fn go_round(
     };
     let from = acting::place_in(out, forth.crossings);
     let rest = &mut out[from..];
-    let vacated = aside::vacate_both(table, aside, x, placement, standing, empty, rest);
-    let Tried::Done(more) = vacated else {
-        return Tried::Failed;
-    };
+    let more = aside::vacate_both(table, aside, x, placement, standing, empty, rest)?;
     let made = acting::add(forth, more);
     let leader = one.lead.couple.follower;
     let follower = one.lead.couple.leader;
     let turned = Couple { leader, follower };
     let end = acting::place_in(out, made.crossings);
     let back = bring::enter(turned, emptied, placement, standing, empty, &mut out[end..]);
-    Tried::Done(acting::add(made, back))
+    Some(acting::add(made, back))
 }
 
 // The list begins with the other one.

@@ -7,7 +7,7 @@ use native.Mathlib.Omega.{arith}
 use borrow.Author.Tests.{eq-eqb, eqb-true, eqb-false, not-true, not-false, lt-ltb, le-ltb}
 use lib.Dec.{eqb, ltb}
 use lib.ListN.{length, length-map}
-use Rattle.paper.specs.Basics.{◌and◌, ◌or◌, any}
+use Rattle.paper.specs.Basics.{◌or◌, any}
 use Rattle.paper.specs.Yard.{crossings, unpack}
 use Rattle.paper.specs.Dependence.{is_done}
 use Rattle.paper.specs.Docket.{bad_marks}

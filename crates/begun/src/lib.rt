@@ -4,15 +4,14 @@
 ghost use Rattle.std.specs.Prelude.{◌≡◌};
 ghost use Rattle.begun.specs.Fresh.{any_set, is_fresh};
 
-// Whether any mark is not 0. All marks are read, which is sooner done than asking at each of them.
+// Whether any mark is not 0. All marks are read, which is sooner done than asking at each of them. `mark_order::odd_mark` asks for marks over 1: one function
+// with the bound as its argument would be no plainer.
 fn any_set(marks: &[u8]) -> bool
     ensures { result ≡ any_set marks.now }
 {
     let mut seen = false;
-    let mut i = 0;
-    while i < marks.len() {
-        seen = seen | (marks[i] > 0);
-        i += 1;
+    for m in marks {
+        seen |= *m > 0;
     }
     seen
 }
@@ -21,8 +20,5 @@ fn any_set(marks: &[u8]) -> bool
 pub fn is_fresh(plan: &[u64], marks: &[u8]) -> bool
     ensures { result ≡ is_fresh plan.now marks.now }
 {
-    if marks.len() != plan.len() {
-        return false;
-    }
-    !any_set(marks)
+    marks.len() == plan.len() && !any_set(marks)
 }

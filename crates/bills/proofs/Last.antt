@@ -12,7 +12,6 @@ use lib.ListN.{length, set, replicate}
 use borrow.Author.Tests.{eqb-true, eqb-false, eq-eqb}
 use Rattle.paper.specs.Basics.{◌and◌}
 use Rattle.paper.specs.Yard.{Carrier, Crossing, crossings, named, most_crossings}
-use Rattle.paper.specs.Order.{order}
 use Rattle.paper.specs.Dependence.{done, is_done}
 use Rattle.paper.specs.Answers.{accepts}
 use Rattle.paper.specs.Log.{Request}

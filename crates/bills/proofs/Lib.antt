@@ -1,5 +1,6 @@
 pub mod Stepping
 pub mod Same
+pub mod Tested
 pub mod Keeping
 pub mod Highest
 pub mod Last

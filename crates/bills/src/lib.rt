@@ -3,7 +3,7 @@
 
 // Where the carriers stand, how many crossings are done, and the highest slot in which anything is done, or 0. The places beyond the carriers are 0.
 #[repr(C)]
-#[derive(Clone, Copy)]
+#[derive(Clone, Copy, PartialEq, Eq)]
 pub struct Record {
     pub at: [u16; paper::BAYS],
     pub done: u32,
@@ -12,7 +12,7 @@ pub struct Record {
 
 // A carrier, the crossings billed to it, and the last of its names that was accepted, UNTOUCHED before the first.
 #[repr(C)]
-#[derive(Clone, Copy)]
+#[derive(Clone, Copy, PartialEq, Eq)]
 pub struct Line {
     pub carrier: u32,
     pub billed: u32,

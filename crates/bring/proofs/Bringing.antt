@@ -1,6 +1,7 @@
 -- A vacate that holds both bays leaves leader and follower in place, so the leader can cross into the vacated bay and the follower
 -- into the bay that the leader left: each turn of the loop is one step of the paper's bring.
 -- Assumes nothing.
+use Rattle.std.proofs.Common.{None, Some}
 use mathlib.Core.Path.{◌≡◌, sym, ◌∙◌, ap, refl}
 use mathlib.Core.Bool.{true}
 use mathlib.Core.List.{List, [], ◌∷◌, ◌++◌, append_assoc}
@@ -28,8 +29,6 @@ use Rattle.bring.specs.Bringing.{entering}
 use Rattle.acting.specs.declared.Tally.{Tally}
 use Rattle.acting.proofs.Lending.{RestLent, on-the-rest}
 use Rattle.acting.proofs.Acting.{tallied-none, tallied-then, tries-some, tried-done, tried-failed, acts-some, acted-done}
-use Rattle.acting.specs.declared.Tried.TheVariants.{Done}
-use Rattle.acting.specs.declared.Tried.TheVariants.{Failed}
 
 -- what is made, and then what the rest answers
 abbrev ahead : Made → Option Made → Option Made
@@ -142,7 +141,7 @@ ahead-ahead xs ys none = refl
 ahead-ahead xs ys (some zs) = ap some (sym (together-assoc xs ys zs))
 
 pub bringing-all : {Y : Yard} {L M : Carrier} {path : List Bay} {n : ℕ} {p out : List ℕ} {i : ℕ} {p' standing' empty' out' : List ℕ} {m : Tally}
-    → Bringing Y L M path n p out i p' standing' empty' out' m → length path ≤ i → Tries (bring Y L M path p) n p out nothing p' standing' empty' out' (Done m)
+    → Bringing Y L M path n p out i p' standing' empty' out' m → length path ≤ i → Tries (bring Y L M path p) n p out nothing p' standing' empty' out' (Some m)
 bringing-all {Y} {L} {M} {path} {p = p} {p' = p'} b h =
     let nil : bring Y L M [] p' ≡ some (only []) = unfold bring in refl in
     let e : bring Y L M path p ≡ some b.xs = b.answer ∙ rw (drop_of_length-le path h, nil) (ap some (together-none b.xs)) in
@@ -150,7 +149,7 @@ bringing-all {Y} {L} {M} {path} {p = p} {p' = p'} b h =
 
 module _ (Y : Yard) (n : ℕ) (L M : Carrier) (x : Bay) (p : Placement) (apart : Apart p) (hL : L < length p) (hM : M < length p) (differ : M ≡ L → ⊥)
     (hx : x < Y.bays) {standing empty out : List ℕ} {at a : Tally} {q standing₁ empty₁ out₁ : List ℕ}
-    (acts : Acts (vacate Y (bay_of p L ∷ bay_of p M ∷ []) x p) n p standing empty out at q standing₁ empty₁ out₁ (Done a)) where
+    (acts : Acts (vacate Y (bay_of p L ∷ bay_of p M ∷ []) x p) n p standing empty out at q standing₁ empty₁ out₁ (Some a)) where
   made_of : (m : Made) × (vacate Y (bay_of p L ∷ bay_of p M ∷ []) x p ≡ some m) × Tallied m n p q standing₁ empty₁ out at out₁ a
   made_of = acted-done acts
 
@@ -166,7 +165,7 @@ module _ (Y : Yard) (n : ℕ) (L M : Carrier) (x : Bay) (p : Placement) (apart :
       )
 
   pub brought-one : {q₂ standing₂ empty₂ out₂ : List ℕ} {r : Tally} → Tallied (entering L M x q) n q q₂ standing₂ empty₂ out₁ a out₂ r
-      → Tries (bring Y L M (x ∷ []) p) n p out at q₂ standing₂ empty₂ out₂ (Done r)
+      → Tries (bring Y L M (x ∷ []) p) n p out at q₂ standing₂ empty₂ out₂ (Some r)
   brought-one {q₂} {standing₂} {empty₂} {out₂} {r} entry =
       let m = made_of in
       let alike : entering L M x q ≡ entering L M x p = rw m.2.moved (enters-alike Y L M x p apart hL hM differ hx m.0 m.1) in
@@ -181,7 +180,7 @@ module _ {n : ℕ} {standing empty : List ℕ} (x : Bay) (p : Placement) (k : Pl
   pub free : Out x p
   free = not-true (elem x p) (sym (k.empties x hx) ∙ sym h)
 
-  pub acts-free : {out : List ℕ} {at : Tally} (Y : Yard) (held : List Bay) → Acts (vacate Y held x p) n p standing empty out at p standing empty out (Done at)
+  pub acts-free : {out : List ℕ} {at : Tally} (Y : Yard) (held : List Bay) → Acts (vacate Y held x p) n p standing empty out at p standing empty out (Some at)
   acts-free {out} {at} Y held = acts-some (vacate-empty Y held x p free) (tallied-none n p standing empty out at k)
 
 pub brought-not : (Y : Yard) (L M : Carrier) (x : Bay) (p : Placement) → vacate Y (bay_of p L ∷ bay_of p M ∷ []) x p ≡ none → (xs : List Bay) → bring Y L M (x ∷ xs) p ≡ none
@@ -214,7 +213,7 @@ module _ (Y : Yard) (L M : Carrier) (x : Bay) (p : Placement) (apart : Apart p) 
 module _ {Y : Yard} {L M : Carrier} {path : List Bay} {n : ℕ} {p out : List ℕ} {i : ℕ} {p' standing' empty' out' : List ℕ} {m : Tally} (b : Bringing Y L M path n p out i p' standing' empty' out' m)
     (here : i < length path) (hL : L < length p') (hM : M < length p') (differ : M ≡ L → ⊥) (hx : get_or path i 0 < Y.bays) {lent rest : List ℕ} {q standing'' empty'' : List ℕ} where
   -- one bay more, in the rest of the list
-  pub bringing-more : {out'' : List ℕ} {more sum : Tally} → RestLent out' m rest more out'' sum → Tries (bring Y L M (get_or path i 0 ∷ []) p') n p' lent nothing q standing'' empty'' rest (Done more)
+  pub bringing-more : {out'' : List ℕ} {more sum : Tally} → RestLent out' m rest more out'' sum → Tries (bring Y L M (get_or path i 0 ∷ []) p') n p' lent nothing q standing'' empty'' rest (Some more)
       → Bringing Y L M path n p out (i + 1) q standing'' empty'' out'' sum
   bringing-more l t =
       let s = tried-done t in
@@ -226,6 +225,6 @@ module _ {Y : Yard} {L M : Carrier} {path : List Bay} {n : ℕ} {p out : List �
             ∙ rw (drop-cons path i 0, bring-then Y L M (get_or path i 0) p' b.played.placed.apart hL hM differ hx (drop (suc i) path) s.0 s.1, ahead-ahead, ← add-one, ← s.2.moved);
       }
 
-  pub bringing-stops : Tries (bring Y L M (get_or path i 0 ∷ []) p') n p' lent nothing q standing'' empty'' rest Failed → bring Y L M path p ≡ none
+  pub bringing-stops : Tries (bring Y L M (get_or path i 0 ∷ []) p') n p' lent nothing q standing'' empty'' rest None → bring Y L M path p ≡ none
   bringing-stops t =
       b.answer ∙ rw (drop-cons path i 0, bring-stops Y L M (get_or path i 0) p' b.played.placed.apart hL hM differ hx (drop (suc i) path) (tried-failed t))

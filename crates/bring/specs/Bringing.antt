@@ -9,7 +9,7 @@ use Rattle.moving.specs.Bounds.{entry_most}
 use Rattle.moving.specs.Placed.{Placed}
 use Rattle.acting.specs.Acting.{nothing, Tallied, Within, TriesAs}
 use Rattle.acting.specs.declared.Tally.{Tally}
-use Rattle.acting.specs.declared.Tried.{Tried}
+use Rattle.acting.specs.Tried.{Tried}
 use Rattle.bring.specs.declared.Couple.{Couple}
 
 -- l goes into x, and m follows into l's bay

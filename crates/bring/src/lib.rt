@@ -5,7 +5,7 @@ ghost use Rattle.std.specs.Prelude.{[], ◌∷◌};
 ghost use Rattle.acting.specs.Acting.{Ready};
 ghost use Rattle.bring.specs.Bringing.{EnterAsks, EnterSays, OneAsks, BringAsks, BringSays};
 
-use acting::{Tally, Tried};
+use acting::Tally;
 use docket::{Bay, Carrier};
 
 // Two carriers that go one behind the other: the follower enters the bay that the leader leaves.
@@ -50,7 +50,7 @@ fn bring_one(
     standing: &mut [u16],
     empty: &mut [u64],
     out: &mut [u64],
-) -> Tried
+) -> Option<Tally>
     requires ready { Ready table.now placement.old standing.old empty.old }
     requires one_asks { OneAsks couple x.0 placement.old standing.old }
     ensures { BringSays couple (x.0 ∷ [])
@@ -58,7 +58,7 @@ fn bring_one(
         placement.new standing.new empty.new out.new result }
 {
     if words::is_in(empty, x.0 as usize) {
-        return Tried::Done(enter(couple, x, placement, standing, empty, out));
+        return Some(enter(couple, x, placement, standing, empty, out));
     }
     let first = couple.leader.0 as usize;
     let second = couple.follower.0 as usize;
@@ -67,13 +67,10 @@ fn bring_one(
     let mut held = [0u64; words::WORDS];
     words::alone(&mut held, u as usize);
     words::join(&mut held, w as usize);
-    let vacated = acting::make_room(table, &held, x, placement, standing, empty, out);
-    let Tried::Done(made) = vacated else {
-        return Tried::Failed;
-    };
+    let made = acting::make_room(table, &held, x, placement, standing, empty, out)?;
     let from = acting::place_in(out, made.crossings);
     let entered = enter(couple, x, placement, standing, empty, &mut out[from..]);
-    Tried::Done(acting::add(made, entered))
+    Some(acting::add(made, entered))
 }
 
 // Bring, along the bays that the leader has yet to enter.
@@ -85,7 +82,7 @@ pub fn bring(
     standing: &mut [u16],
     empty: &mut [u64],
     out: &mut [u64],
-) -> Tried
+) -> Option<Tally>
     requires ready { Ready table.now placement.old standing.old empty.old }
     requires bring_asks { BringAsks couple path.now placement.old standing.old }
     ensures { BringSays couple path.now
@@ -93,11 +90,10 @@ pub fn bring(
         placement.new standing.new empty.new out.new result }
 {
     let mut count = acting::NOTHING;
-    let mut i = 0;
-    while i < path.len() {
-        let x = Bay(path[i]);
+    for bay in path {
+        let x = Bay(*bay);
         let from = acting::place_in(out, count.crossings);
-        let one = bring_one(
+        let made = bring_one(
             table,
             couple,
             x,
@@ -105,12 +101,8 @@ pub fn bring(
             standing,
             empty,
             &mut out[from..],
-        );
-        let Tried::Done(made) = one else {
-            return Tried::Failed;
-        };
+        )?;
         count = acting::add(count, made);
-        i += 1;
     }
-    Tried::Done(count)
+    Some(count)
 }

@@ -26,6 +26,6 @@ pub fn keep(before: u16, count: u16, start: u16, goal: u16, starts: &mut [u16], 
         return;
     }
     let at = before as usize;
-    stores::short(starts, at, start);
-    stores::short(goals, at, goal);
+    stores::store(starts, at, start);
+    stores::store(goals, at, goal);
 }

@@ -1,6 +1,7 @@
 -- Once r has gone its path it is at its goal, and whom it met is one bay back: that is what the way home asks. So the two, one after the
 -- other, are the paper's carry.
 -- Assumes nothing.
+use Rattle.std.proofs.Common.{Err, Ok}
 use mathlib.Core.Path.{◌≡◌, sym, ◌∙◌, ap, refl}
 use mathlib.Core.List.{List, [], ◌∷◌, ◌++◌, drop_last}
 use mathlib.Core.Option.{some}
@@ -35,9 +36,7 @@ use Rattle.along.specs.Along.{Goals, HomeBelow, EndsAt, OnPath, TurnAsks, GoalAs
 use Rattle.along.specs.declared.ToGoal.{ToGoal}
 use Rattle.along.proofs.Along.{ahead-length, carry-is, way_of}
 use Rattle.carry.specs.Carrying.{Settles}
-use Rattle.home.specs.declared.Staged.TheVariants.{Planned}
-use Rattle.home.specs.declared.Staged.{Staged}
-use Rattle.home.specs.declared.Staged.TheVariants.{Stuck}
+use Rattle.home.specs.Staged.{Staged}
 use Rattle.docket.specs.declared.Carrier.{Carrier as Named}
 
 -- ## Lists
@@ -81,7 +80,7 @@ between-get k room h i low =
 pub settles : {finished : ℕ} {p settled : List ℕ} {z : Staged} → BaysBelow finished p settled → Settles finished p settled z
 settles s = record { below = λ m e. s }
 
-pub settles-stuck : {finished : ℕ} {p settled : List ℕ} {c : Named} → Settles finished p settled (Stuck c)
+pub settles-stuck : {finished : ℕ} {p settled : List ℕ} {c : Named} → Settles finished p settled (Err c)
 settles-stuck = record { below = λ m e. never (cc) }
 
 -- ## Outcomes
@@ -139,7 +138,7 @@ module _ {n : ℕ} {table : List ℕ} (t : Tabled n table) (most : n ≤ span) (
 
     module _ (a : Made) (e : plan_of gone ≡ some a) where
       carried-short : {out : List ℕ} {at : Tally} {p' standing' empty' out' : List ℕ} {m : Tally} → length way.ahead < 2 → Tallied a n p p' standing' empty' out at out' m
-          → Stages (carry t.yard goals r p) n p out at p' standing' empty' out' (Planned m)
+          → Stages (carry t.yard goals r p) n p out at p' standing' empty' out' (Ok m)
       unfolding onward way_home
       carried-short h w = stages-done (turn_is ∙ rw (plan-some gone a e, drop-last-short way.ahead h) (ap planned (together-none a))) w
 
@@ -177,7 +176,7 @@ module _ {table p standing empty settled : List ℕ} (t : Tabled (length standin
       rw (ap drop_last ahead-there)
       (homeward t ready.most turn.loopless b.goals r p ready.placed b.each turn.carrier_there b.below (take m room) there g.made went q g.played.moved (omega arith))
 
-  pub gone-short : length (take m room) < 3 → Stages (carry t.yard b.goals r p) n p out nothing q standing₁ empty₁ out₁ (Planned c)
+  pub gone-short : length (take m room) < 3 → Stages (carry t.yard b.goals r p) n p out nothing q standing₁ empty₁ out₁ (Ok c)
   gone-short h =
       let l = ap length there.starts in
       carried-short t ready.most turn.loopless b.goals r p ready.placed b.each turn.carrier_there b.below (take m room) there g.path g.made went

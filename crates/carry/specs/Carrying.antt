@@ -1,6 +1,6 @@
 -- What a carrier's turn asks and says: whose goal each bay is; the paper's turn of a carrier.
 -- Assumes nothing.
-use Rattle.std.specs.Prelude.{◌≡◌, List, ℕ, ◌+◌, length}
+use Rattle.std.specs.Prelude.{◌≡◌, List, ℕ, ◌+◌, length, Ok}
 use Rattle.paper.specs.Procedure.{carry}
 use Rattle.moving.specs.Bounds.{carrier_most}
 use Rattle.acting.specs.Acting.{Tabled, nothing}
@@ -9,12 +9,11 @@ use Rattle.home.specs.FromBelow.{BaysBelow}
 use Rattle.along.specs.Along.{GoalAsks}
 use Rattle.along.specs.declared.ToGoal.{ToGoal}
 use Rattle.home.specs.Homing.{Owners, AtMost, Stages}
-use Rattle.home.specs.declared.Staged.{Staged}
-use Rattle.home.specs.declared.Staged.TheVariants.{Planned}
+use Rattle.home.specs.Staged.{Staged}
 
 -- where it is planned the set has the bays of the carriers below `finished`
 pub record Settles (finished : ℕ) (p settled : List ℕ) (z : Staged) : Type 0 where
-  pub below : (m : Tally) → z ≡ Planned m → BaysBelow finished p settled
+  pub below : (m : Tally) → z ≡ Ok m → BaysBelow finished p settled
 
 -- ## What is asked, what is said
 

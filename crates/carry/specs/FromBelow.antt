@@ -2,5 +2,4 @@
 pub use Rattle.along.specs.Along.{Bound, Goals, HomeBelow}
 pub use Rattle.home.specs.Homing.{Owners, Stages, StagesAs}
 pub use Rattle.home.specs.FromBelow.{BaysBelow, Loopless}
-pub use Rattle.home.specs.declared.Staged.{Staged}
-pub use Rattle.home.specs.declared.Staged.TheVariants.{Planned, Stuck}
+pub use Rattle.home.specs.Staged.{Staged}

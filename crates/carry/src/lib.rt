@@ -5,11 +5,12 @@ ghost use Rattle.acting.specs.Acting.{Ready};
 ghost use Rattle.along.specs.Along.{TurnAsks};
 ghost use Rattle.carry.specs.Carrying.{OwnedAsks, CarrySays};
 
+use acting::Tally;
 pub use along;
-use along::{Gone, ToGoal};
-use docket::Bay;
+use along::ToGoal;
+use docket::{Bay, Carrier};
 pub use home;
-use home::{HomeBay, Staged};
+use home::HomeBay;
 
 // Carrier r goes its path, then those that it displaced go home: at the bays of the path one after the other, the last of them first. Each is lent the
 // rest of the list.
@@ -22,7 +23,7 @@ pub fn carry(
     empty: &mut [u64],
     settled: &mut [u64],
     out: &mut [u64],
-) -> Staged
+) -> Result<Tally, Carrier>
     requires ready { Ready table.now placement.old standing.old empty.old }
     requires turn_asks { TurnAsks to table.now placement.old standing.old settled.old }
     requires owned_asks { OwnedAsks to owner.now placement.old standing.old }
@@ -33,26 +34,24 @@ pub fn carry(
     let mut path = [0u16; words::SPAN];
     let room = &mut path[..];
     let gone = along::go_along(table, to, placement, standing, empty, settled, out, room);
-    let Gone::There(k, done) = gone else {
-        return Staged::Stuck(r);
+    let Some((k, done)) = gone else {
+        return Err(r);
     };
     let mut count = done;
     if k < 3 {
-        return Staged::Planned(count);
+        return Ok(count);
     }
     let finished = r.0 as usize + 1;
-    let mut i = k - 2;
-    while 0 < i {
+    for i in (1..k - 1).rev() {
         let bay = Bay(path[i]);
         let v = HomeBay { finished, bay };
         let from = acting::place_in(out, count.crossings);
         let rest = &mut out[from..];
         let homed = home::home_at(table, owner, v, placement, standing, empty, settled, rest);
-        let Staged::Planned(made) = homed else {
+        let Ok(made) = homed else {
             return homed;
         };
         count = acting::add(count, made);
-        i -= 1;
     }
-    Staged::Planned(count)
+    Ok(count)
 }

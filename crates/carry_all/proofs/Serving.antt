@@ -1,5 +1,6 @@
 -- The turns so far, and then those of the rest, are the paper's procedure. Who had a turn is at home.
 -- Assumes nothing.
+use Rattle.std.proofs.Common.{Err, Ok}
 use mathlib.Core.Path.{◌≡◌, sym, ◌∙◌, ap, refl}
 use mathlib.Core.List.{List, []}
 use Prim.Native.Nat.{ℕ, suc, ◌≤◌, ◌<◌, ◌-◌, ◌+◌}
@@ -21,8 +22,6 @@ use Rattle.carry.proofs.FromBelow.{in-bays}
 use Rattle.carry.specs.FromBelow.{Loopless}
 use Rattle.carry.proofs.FromBelow.{stages-done}
 use Rattle.carry.specs.FromBelow.{Goals, HomeBelow}
-use Rattle.carry.specs.FromBelow.{Planned}
-use Rattle.carry.specs.FromBelow.{Stuck}
 use Rattle.docket.specs.declared.Carrier.{Carrier as Named}
 
 -- what is made, and then what the rest gives
@@ -63,7 +62,7 @@ module _ (Y : Yard) (goals : Placement) (r j : ℕ) (p : Placement) where
 
 module _ {Y : Yard} {goals : Placement} {n : ℕ} {p out : List ℕ} {r : ℕ} {p' standing' empty' out' : List ℕ} {m : Tally} (g : Served Y goals n p out r p' standing' empty' out' m) (here : r < length goals)
     {lent rest q standing'' empty'' : List ℕ} where
-  pub served-more : {out'' : List ℕ} {b sum : Tally} → RestLent out' m rest b out'' sum → Stages (carry Y goals r p') n p' lent nothing q standing'' empty'' rest (Planned b) → Served Y goals n p out (r + 1) q standing'' empty'' out'' sum
+  pub served-more : {out'' : List ℕ} {b sum : Tally} → RestLent out' m rest b out'' sum → Stages (carry Y goals r p') n p' lent nothing q standing'' empty'' rest (Ok b) → Served Y goals n p out (r + 1) q standing'' empty'' out'' sum
   served-more {b = b} l s =
       let w = s.plans b refl in
       let e : length goals - r ≡ suc (length goals - (r + 1)) = omega arith in
@@ -76,20 +75,20 @@ module _ {Y : Yard} {goals : Placement} {n : ℕ} {p out : List ℕ} {r : ℕ} {
             (let f : suc r ≡ r + 1 = omega arith in rw f);
       }
 
-  pub served-stuck : {c : Named} → Stages (carry Y goals r p') n p' lent nothing q standing'' empty'' rest (Stuck c) → procedure Y goals p ≡ stuck c.0
+  pub served-stuck : {c : Named} → Stages (carry Y goals r p') n p' lent nothing q standing'' empty'' rest (Err c) → procedure Y goals p ≡ stuck c.0
   served-stuck {c = c} s =
       let e : length goals - r ≡ suc (length goals - (r + 1)) = omega arith in
       g.answer ∙ rw (e, from-stuck Y goals r (length goals - (r + 1)) p' c.0 (s.stops c refl))
 
 pub served-all : {Y : Yard} {goals : Placement} {n : ℕ} {p out : List ℕ} {r : ℕ} {p' standing' empty' out' : List ℕ} {m : Tally} → Served Y goals n p out r p' standing' empty' out' m → length goals ≤ r
-    → Stages (procedure Y goals p) n p out nothing p' standing' empty' out' (Planned m)
+    → Stages (procedure Y goals p) n p out nothing p' standing' empty' out' (Ok m)
 unfolding carry_from
 served-all {goals = goals} {r = r} g h =
     let e : length goals - r ≡ 0 = omega arith in
     stages-done (g.answer ∙ rw e (ap planned (together-none g.xs))) g.played
 
 pub home-more : {n : ℕ} {table : List ℕ} (t : Tabled n table) → n ≤ span → Loopless n table → (goals : List ℕ) (r : ℕ) (p : Placement) {standing empty out : List ℕ} {at b : Tally} {q standing' empty' out' : List ℕ}
-    → Placed n p standing empty → Goals n goals p → r < length p → HomeBelow r goals p → Stages (carry t.yard goals r p) n p out at q standing' empty' out' (Planned b) → HomeBelow (r + 1) goals q
+    → Placed n p standing empty → Goals n goals p → r < length p → HomeBelow r goals p → Stages (carry t.yard goals r p) n p out at q standing' empty' out' (Ok b) → HomeBelow (r + 1) goals q
 home-more {n} t most loopless goals r p {b = b} k g hr hm s =
     let x = s.plans b refl in
     let c = carry-carries t.yard (sound-of t most loopless) goals g.apart r p x.0 (record { apart = k.apart; inside = λ i h. in-bays t (k.inside i h) }) (sym g.many) hr

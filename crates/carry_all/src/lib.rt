@@ -4,9 +4,9 @@
 ghost use Rattle.acting.specs.Acting.{Ready};
 ghost use Rattle.carry_all.specs.Serving.{CarryAllAsks, CarryAllSays};
 
+use acting::Tally;
 use carry::along::ToGoal;
 pub use carry::home;
-use carry::home::Staged;
 use docket::{Bay, Carrier};
 
 // All carriers by rising number, each lent the rest of the list. What the yard is, is asked once, since in a carousel every bay must tell.
@@ -19,7 +19,7 @@ pub fn carry_all(
     empty: &mut [u64],
     settled: &mut [u64],
     out: &mut [u64],
-) -> Staged
+) -> Result<Tally, Carrier>
     requires ready { Ready table.now placement.old standing.old empty.old }
     requires carry_all_asks { CarryAllAsks goals.now owner.now table.now placement.old standing.old settled.old }
     ensures { CarryAllSays goals.now table.now placement.old standing.old out.old
@@ -27,22 +27,20 @@ pub fn carry_all(
 {
     let in_carousel = kinds::is_carousel(table, standing.len());
     let mut count = acting::NOTHING;
-    let mut r = 0;
-    while r < goals.len() {
+    for (r, goal) in goals.iter().enumerate() {
         let number = r as u32;
         let to = ToGoal {
             carrier: Carrier(number),
-            goal: Bay(goals[r]),
+            goal: Bay(*goal),
             in_carousel,
         };
         let from = acting::place_in(out, count.crossings);
         let rest = &mut out[from..];
         let carried = carry::carry(table, owner, to, placement, standing, empty, settled, rest);
-        let Staged::Planned(made) = carried else {
+        let Ok(made) = carried else {
             return carried;
         };
         count = acting::add(count, made);
-        r += 1;
     }
-    Staged::Planned(count)
+    Ok(count)
 }

@@ -93,7 +93,7 @@ module _ (text : List ℕ) (at i v : ℕ) (r : Reading text at i v) where
         omega (arith, left, r.inside);
   }
 
-  pub reads_end : length text ≤ i → Reads text at (record { value = v; next = i })
+  pub reads_end : length text ≤ i → Reads text at (record { value = v; next = length text })
   unfolding decimal past_digits
   reads_end h =
       let nothing : drop i text ≡ [] = drop_of_length-le text h in

@@ -6,7 +6,6 @@ ghost use Rattle.std.specs.Prelude.{◌≡◌, ◌+◌, ◌*◌, ◌%◌, ◌^�
 ghost use Rattle.cases.specs.Numerals.{is_digit, from_digit, Reads};
 
 use std::io::Read;
-use std::num::wrapping_add_u64;
 use std::rt::Files;
 use std::{fs, io};
 
@@ -53,12 +52,10 @@ fn is_digit(b: u8) -> bool
 fn first_digit(text: &[u8], at: usize) -> usize
     ensures { (drop result text.now ≡ from_digit (drop at text.now)) × (result ≤ length text.now) }
 {
-    let mut i = at;
-    while i < text.len() {
+    for i in at..text.len() {
         if is_digit(text[i]) {
             return i;
         }
-        i += 1;
     }
     text.len()
 }
@@ -67,102 +64,74 @@ fn first_digit(text: &[u8], at: usize) -> usize
 fn with_digit(value: u64, digit: u8) -> u64
     ensures { value * 10 + digit % 16 < 2 ^ 64 → result ≡ value * 10 + digit % 16 }
 {
-    let d = (digit % 16) as u64;
-    if value <= 1844674407370955160 {
-        wrapping_add_u64(value * 10, d)
-    } else {
-        wrapping_add_u64(18446744073709551610, d)
-    }
+    (value.min(u64::MAX / 10) * 10).wrapping_add(u64::from(digit % 16))
 }
 
 // The first number from `at` on; 0 where there is none.
 pub fn number(text: &[u8], at: usize) -> Numeral
     ensures { Reads text.now at result }
 {
-    let mut i = first_digit(text, at);
     let mut value = 0;
-    while i < text.len() {
+    for i in first_digit(text, at)..text.len() {
         if !is_digit(text[i]) {
             return Numeral { value, next: i };
         }
         value = with_digit(value, text[i]);
-        i += 1;
     }
-    Numeral { value, next: i }
+    Numeral {
+        value,
+        next: text.len(),
+    }
+}
+
+// What a list holds: a number as far as the type has room for it.
+pub trait Listable: Copy {
+    fn of(n: u64) -> Self;
+}
+
+impl Listable for u64 {
+    fn of(n: u64) -> u64 {
+        n
+    }
+}
+
+// A bay: a number below 2^16.
+impl Listable for u16 {
+    fn of(n: u64) -> u16 {
+        (n % 65536) as u16
+    }
+}
+
+// A mark: a number below 2^8.
+impl Listable for u8 {
+    fn of(n: u64) -> u8 {
+        (n % 256) as u8
+    }
 }
 
 // The list from `at` on, its numbers into the first places of `out` as far as there are any.
-pub fn list64(text: &[u8], at: usize, out: &mut [u64]) -> Listed
+pub fn list<T: Listable>(text: &[u8], at: usize, out: &mut [T]) -> Listed
     ensures { result.count ≤ length out.new }
 {
     let size = number(text, at);
     let mut next = size.next;
-    let mut i = 0;
-    while i < out.len() {
+    for (i, place) in out.iter_mut().enumerate() {
         if size.value <= i as u64 {
             return Listed { count: i, next };
         }
         let n = number(text, next);
-        out[i] = n.value;
+        *place = T::of(n.value);
         next = n.next;
-        i += 1;
     }
-    Listed { count: i, next }
+    Listed {
+        count: out.len(),
+        next,
+    }
 }
 
-// The same for bays: numbers below 2^16.
-pub fn list16(text: &[u8], at: usize, out: &mut [u16]) -> Listed
-    ensures { result.count ≤ length out.new }
-{
-    let size = number(text, at);
-    let mut next = size.next;
-    let mut i = 0;
-    while i < out.len() {
-        if size.value <= i as u64 {
-            return Listed { count: i, next };
-        }
-        let n = number(text, next);
-        out[i] = (n.value % 65536) as u16;
-        next = n.next;
-        i += 1;
-    }
-    Listed { count: i, next }
-}
-
-// The same for marks: numbers below 2^8.
-pub fn list8(text: &[u8], at: usize, out: &mut [u8]) -> Listed
-    ensures { result.count ≤ length out.new }
-{
-    let size = number(text, at);
-    let mut next = size.next;
-    let mut i = 0;
-    while i < out.len() {
-        if size.value <= i as u64 {
-            return Listed { count: i, next };
-        }
-        let n = number(text, next);
-        out[i] = (n.value % 256) as u8;
-        next = n.next;
-        i += 1;
-    }
-    Listed { count: i, next }
-}
-
-// The first `n` numbers of a list, or all where there are fewer.
-pub fn first64(list: &[u64], n: usize) -> &[u64]
+// The first `n` items of a list, or all where there are fewer.
+pub fn first<T>(list: &[T], n: usize) -> &[T]
     ensures { result.now ≡ take n list.now }
 {
-    if n <= list.len() { &list[..n] } else { list }
-}
-
-pub fn first16(list: &[u16], n: usize) -> &[u16]
-    ensures { result.now ≡ take n list.now }
-{
-    if n <= list.len() { &list[..n] } else { list }
-}
-
-pub fn first8(list: &[u8], n: usize) -> &[u8]
-    ensures { result.now ≡ take n list.now }
-{
-    if n <= list.len() { &list[..n] } else { list }
+    &list[..n.min(list.len())]
 }

@@ -9,7 +9,11 @@ use lib.Seq.{get_or-set_same, get_or-set_other}
 use borrow.Author.Tests.{eqb-true, eqb-false}
 use Rattle.paper.specs.Limits.{most_bays, most_crossings}
 use Rattle.paper.specs.Yard.{crossings, named}
+use Rattle.paper.specs.OnePass.{Fits}
 use Rattle.paper.proofs.Tests.{by_cases}
+use Rattle.plans.proofs.Rest.{fits-named}
+use Rattle.docket.specs.Reading.{crossing_of}
+use Rattle.docket.specs.declared.Crossing.{Crossing as Read}
 use Rattle.chains.specs.Links.{key_of, Passed, links_each, own, sought, goal, Met, Leads, LeadsDown, Linked, Sees, Seen, SeesBelow, SeenBelow, Ahead, Behind}
 use Rattle.chains.proofs.Linking.{passed_none, passed-both}
 
@@ -66,38 +70,36 @@ module _ (plan : List ℕ) where
 
     -- its three links up
     pub ahead-next : (links : List ℕ) (a b c : ℕ) → length links ≡ length plan * links_each → Leads plan [] 0 m a → Leads plan [] 1 m b → Leads plan [] 2 m c
-        → Ahead plan links (suc m) → Ahead plan (set (set (set links (m * links_each) a) (m * links_each + 1) b) (m * links_each + 2) c) m
+        → Ahead plan links (suc m) → Ahead plan (set (set (set links (m * links_each + 0) a) (m * links_each + 1) b) (m * links_each + 2) c) m
     ahead-next links a b c long la lb lc s kind j small from to =
         by_cases (eqb j m)
         (λ z. let here = eqb-true j m z in rw here (three kind small))
         (λ z.
         let n = eqb-false j m z in
         rw (
-          get_or-set_other (set (set links (m * links_each) a) (m * links_each + 1) b) (m * links_each + 2) (j * links_each + kind) c 0 (λ e. n (omega arith)),
-          get_or-set_other (set links (m * links_each) a) (m * links_each + 1) (j * links_each + kind) b 0 (λ e. n (omega arith)),
-          get_or-set_other links (m * links_each) (j * links_each + kind) a 0 (λ e. n (omega arith)),
+          get_or-set_other (set (set links (m * links_each + 0) a) (m * links_each + 1) b) (m * links_each + 2) (j * links_each + kind) c 0 (λ e. n (omega arith)),
+          get_or-set_other (set links (m * links_each + 0) a) (m * links_each + 1) (j * links_each + kind) b 0 (λ e. n (omega arith)),
+          get_or-set_other links (m * links_each + 0) (j * links_each + kind) a 0 (λ e. n (omega arith)),
         )
         (s kind j small (omega arith) to))
       where
-        three : (k : ℕ) → k < 3 → Leads plan [] k m (get_or (set (set (set links (m * links_each) a) (m * links_each + 1) b) (m * links_each + 2) c) (m * links_each + k) 0)
+        three : (k : ℕ) → k < 3 → Leads plan [] k m (get_or (set (set (set links (m * links_each + 0) a) (m * links_each + 1) b) (m * links_each + 2) c) (m * links_each + k) 0)
         three zero h =
-            let at : m * links_each + 0 ≡ m * links_each = omega arith in
             rw (
-              get_or-set_other (set (set links (m * links_each) a) (m * links_each + 1) b) (m * links_each + 2) (m * links_each + 0) c 0 (λ e. omega arith),
-              get_or-set_other (set links (m * links_each) a) (m * links_each + 1) (m * links_each + 0) b 0 (λ e. omega arith),
-              at,
-              get_or-set_same links (m * links_each) a 0 (omega arith),
+              get_or-set_other (set (set links (m * links_each + 0) a) (m * links_each + 1) b) (m * links_each + 2) (m * links_each + 0) c 0 (λ e. omega arith),
+              get_or-set_other (set links (m * links_each + 0) a) (m * links_each + 1) (m * links_each + 0) b 0 (λ e. omega arith),
+              get_or-set_same links (m * links_each + 0) a 0 (omega arith),
             )
             la
         three (suc zero) h =
             rw (
-              get_or-set_other (set (set links (m * links_each) a) (m * links_each + 1) b) (m * links_each + 2) (m * links_each + 1) c 0 (λ e. omega arith),
-              get_or-set_same (set links (m * links_each) a) (m * links_each + 1) b 0 (omega (arith, length-set links (m * links_each) a)),
+              get_or-set_other (set (set links (m * links_each + 0) a) (m * links_each + 1) b) (m * links_each + 2) (m * links_each + 1) c 0 (λ e. omega arith),
+              get_or-set_same (set links (m * links_each + 0) a) (m * links_each + 1) b 0 (omega (arith, length-set links (m * links_each + 0) a)),
             )
             lb
         three (suc (suc zero)) h =
-            rw (get_or-set_same (set (set links (m * links_each) a) (m * links_each + 1) b) (m * links_each + 2) c 0
-            (omega (arith, length-set links (m * links_each) a, length-set (set links (m * links_each) a) (m * links_each + 1) b)))
+            rw (get_or-set_same (set (set links (m * links_each + 0) a) (m * links_each + 1) b) (m * links_each + 2) c 0
+            (omega (arith, length-set links (m * links_each + 0) a, length-set (set links (m * links_each + 0) a) (m * links_each + 1) b)))
             lc
         three (suc (suc (suc k))) h = absurd (omega arith)
 
@@ -229,58 +231,53 @@ down-start plan links long up = record {
   down = λ kind j h u l. absurd (omega arith);
 }
 
-module _ (plan links entering moving : List ℕ) (m u : ℕ) (is : m ≡ suc u) (fill : FillingUp plan links entering moving m) (from to carrier : ℕ)
-    (from_is : from ≡ (named (crossings plan) u).from) (to_is : to ≡ (named (crossings plan) u).to) (carrier-is : carrier ≡ (named (crossings plan) u).carrier)
-    (small-from : from < most_bays) (small-to : to < most_bays) (small-carrier : carrier < most_bays) where
-  enters-u : Seen plan 0 entering (suc u)
-  enters-u = rw is at fill.enters
+-- the crossing at hand is within the tables
+pub in-tables : (plan : List ℕ) (m : ℕ) (x : Read) → Fits most_bays most_bays plan → m < length plan → crossing_of x ≡ named (crossings plan) m
+    → (x.carrier.0 < most_bays) × (x.from.0 < most_bays) × (x.to.0 < most_bays)
+in-tables plan m x fits inside is = fits-named most_bays most_bays plan fits m inside (crossing_of x) is
 
-  moves-u : Seen plan 1 moving (suc u)
-  moves-u = rw is at fill.moves
+pub up_next : {plan links entering moving : List ℕ} {m u : ℕ} (x : Read) → Fits most_bays most_bays plan → m ≡ suc u → crossing_of x ≡ named (crossings plan) u
+    → FillingUp plan links entering moving m → FillingUp plan
+    (set (set (set links (u * links_each + 0) (get_or entering x.from.0 0 - 1)) (u * links_each + 1) (get_or entering x.to.0 0 - 1)) (u * links_each + 2) (get_or moving x.carrier.0 0 - 1))
+    (set entering x.to.0 u) (set moving x.carrier.0 u) u
+unfolding own sought
+up_next {plan} {links} {entering} {moving} {m} {u} x fits one is fill =
+    let inside : u < length plan = omega (arith, fill.within) in
+    let small = in-tables plan u x fits inside is in
+    let enters : Seen plan 0 entering (suc u) = rw one at fill.enters in
+    let moves : Seen plan 1 moving (suc u) = rw one at fill.moves in
+    let up : Ahead plan links (suc u) = rw one at fill.up in
+    let from_is : x.from.0 ≡ (named (crossings plan) u).from = ap (λ y. y.from) is in
+    let to_is : x.to.0 ≡ (named (crossings plan) u).to = ap (λ y. y.to) is in
+    let carrier-is : x.carrier.0 ≡ (named (crossings plan) u).carrier = ap (λ y. y.carrier) is in
+    record {
+      within = omega arith;
+      long = simp length-set fill.long;
+      bays = length-set entering x.to.0 u ∙ fill.bays;
+      carriers = length-set moving x.carrier.0 u ∙ fill.carriers;
+      enters = seen_next plan u inside 0 x.to.0 entering to_is (omega (arith, fill.bays, small.2)) enters;
+      moves = seen_next plan u inside 1 x.carrier.0 moving carrier-is (omega (arith, fill.carriers, small.0)) moves;
+      up = ahead-next plan u inside links _ _ _ fill.long
+          (leads-on plan u inside 0 x.from.0 (get_or entering x.from.0 0) from_is (enters x.from.0 small.1))
+          (leads-on plan u inside 1 x.to.0 (get_or entering x.to.0 0) to_is (enters x.to.0 small.2))
+          (leads-on plan u inside 2 x.carrier.0 (get_or moving x.carrier.0 0) carrier-is (moves x.carrier.0 small.0)) up;
+    }
 
-  up-u : Ahead plan links (suc u)
-  up-u = rw is at fill.up
-
-  pub enters-low : (key : ℕ) → key < most_bays → (u < get_or entering key 0) × (get_or entering key 0 ≤ length plan)
-  enters-low key h = let s = enters-u key h in (omega (arith, s.low), s.high)
-
-  pub moves-low : (u < get_or moving carrier 0) × (get_or moving carrier 0 ≤ length plan)
-  moves-low = let s = moves-u carrier small-carrier in (omega (arith, s.low), s.high)
-
-  pub up_next : (a b c : ℕ) → a ≡ get_or entering from 0 - 1 → b ≡ get_or entering to 0 - 1 → c ≡ get_or moving carrier 0 - 1
-      → FillingUp plan (set (set (set links (u * links_each) a) (u * links_each + 1) b) (u * links_each + 2) c) (set entering to u) (set moving carrier u) u
-  unfolding own sought
-  up_next a b c a-is b-is c-is =
-      let inside : u < length plan = omega (arith, fill.within) in
-      let la : Leads plan [] 0 u a = rw a-is (leads-on plan u inside 0 from (get_or entering from 0) from_is (enters-u from small-from)) in
-      let lb : Leads plan [] 1 u b = rw b-is (leads-on plan u inside 1 to (get_or entering to 0) to_is (enters-u to small-to)) in
-      let lc : Leads plan [] 2 u c = rw c-is (leads-on plan u inside 2 carrier (get_or moving carrier 0) carrier-is (moves-u carrier small-carrier)) in
-      record {
-        within = omega arith;
-        long = length-set (set (set links (u * links_each) a) (u * links_each + 1) b) (u * links_each + 2) c ∙ length-set (set links (u * links_each) a) (u * links_each + 1) b ∙ length-set links (u * links_each) a ∙ fill.long;
-        bays = length-set entering to u ∙ fill.bays;
-        carriers = length-set moving carrier u ∙ fill.carriers;
-        enters = seen_next plan u inside 0 to entering to_is (omega (arith, fill.bays)) enters-u;
-        moves = seen_next plan u inside 1 carrier moving carrier-is (omega (arith, fill.carriers)) moves-u;
-        up = ahead-next plan u inside links a b c fill.long la lb lc up-u;
-      }
-
-module _ (plan links leaving : List ℕ) (m : ℕ) (inside : m < length plan) (fill : FillingDown plan links leaving m) (from to : ℕ)
-    (from_is : from ≡ (named (crossings plan) m).from) (to_is : to ≡ (named (crossings plan) m).to) (small-from : from < most_bays) (small-to : to < most_bays) where
-  pub leaves-low : (key : ℕ) → key < most_bays → get_or leaving key 0 ≤ m
-  leaves-low key h = (fill.leaves key h).high
-
-  pub down-next : (a b : ℕ) → a ≡ get_or leaving to 0 → b ≡ get_or leaving from 0
-      → FillingDown plan (set (set links (m * links_each + 3) a) (m * links_each + 4) b) (set leaving from (m + 1)) (m + 1)
-  unfolding own
-  down-next a b a-is b-is =
-      let la : LeadsDown plan [] 3 m a = rw a-is (leads-down plan m inside 3 to (get_or leaving to 0) to_is (fill.leaves to small-to)) in
-      let lb : LeadsDown plan [] 4 m b = rw b-is (leads-down plan m inside 4 from (get_or leaving from 0) from_is (fill.leaves from small-from)) in
-      record {
-        within = omega arith;
-        long = length-set (set links (m * links_each + 3) a) (m * links_each + 4) b ∙ length-set links (m * links_each + 3) a ∙ fill.long;
-        bays = length-set leaving from (m + 1) ∙ fill.bays;
-        leaves = below_more plan m inside from leaving from_is (omega (arith, fill.bays)) fill.leaves;
-        up = ahead-kept plan m inside links a b 0 fill.up;
-        down = behind-next plan m inside links a b fill.long la lb fill.down;
-      }
+pub down-next : {plan links leaving : List ℕ} {m : ℕ} (x : Read) → Fits most_bays most_bays plan → m < length plan → crossing_of x ≡ named (crossings plan) m
+    → FillingDown plan links leaving m → FillingDown plan
+    (set (set links (m * links_each + 3) (get_or leaving x.to.0 0)) (m * links_each + 4) (get_or leaving x.from.0 0)) (set leaving x.from.0 (m + 1)) (m + 1)
+unfolding own
+down-next {plan} {links} {leaving} {m} x fits inside is fill =
+    let small = in-tables plan m x fits inside is in
+    let from_is : x.from.0 ≡ (named (crossings plan) m).from = ap (λ y. y.from) is in
+    let to_is : x.to.0 ≡ (named (crossings plan) m).to = ap (λ y. y.to) is in
+    record {
+      within = omega arith;
+      long = simp length-set fill.long;
+      bays = length-set leaving x.from.0 (m + 1) ∙ fill.bays;
+      leaves = below_more plan m inside x.from.0 leaving from_is (omega (arith, fill.bays, small.1)) fill.leaves;
+      up = ahead-kept plan m inside links _ _ 0 fill.up;
+      down = behind-next plan m inside links _ _ fill.long
+          (leads-down plan m inside 3 x.to.0 (get_or leaving x.to.0 0) to_is (fill.leaves x.to.0 small.2))
+          (leads-down plan m inside 4 x.from.0 (get_or leaving x.from.0 0) from_is (fill.leaves x.from.0 small.1)) fill.down;
+    }

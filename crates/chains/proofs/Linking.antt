@@ -1,5 +1,6 @@
 -- Links stay right while crossings are dropped, and while a link is put right up to what a search by links found.
-use mathlib.Core.Path.{◌≡◌, sym, ◌∙◌, ap}
+use denote.Enum.Declared.{tag_of}
+use mathlib.Core.Path.{◌≡◌, refl, sym, ◌∙◌, ap}
 use mathlib.Core.List.{List, []}
 use Prim.Native.Nat.{ℕ, suc, ◌≤◌, ◌<◌, ◌+◌, ◌*◌, ◌-◌}
 use native.Mathlib.Omega.{arith}
@@ -9,7 +10,18 @@ use lib.Seq.{get_or-set_same, get_or-set_other}
 use borrow.Author.Tests.{eqb-true, eqb-false, ltb-true, ltb-false}
 use Rattle.paper.specs.Yard.{crossings, named}
 use Rattle.paper.proofs.Tests.{by_cases}
-use Rattle.chains.specs.Links.{key_of, Passed, links_each, own, sought, goal, Met, MetBelow, Leads, LeadsDown, Linked}
+use Rattle.chains.specs.contracts.Link.{the_type}
+use Rattle.chains.specs.declared.Link.{Link}
+use Rattle.chains.specs.declared.Link.TheVariants.{EntersFrom, EntersTo, Own, LeavesTo, LeavesFrom}
+use Rattle.chains.specs.Links.{place_of, key_of, Passed, links_each, own, sought, goal, Met, MetBelow, Leads, LeadsDown, Linked}
+
+-- a link's number is its place
+pub tag_place : (l : Link) → tag_of the_type l ≡ place_of l
+tag_place EntersFrom = refl
+tag_place EntersTo = refl
+tag_place Own = refl
+tag_place LeavesTo = refl
+tag_place LeavesFrom = refl
 
 -- ## What is passed
 

@@ -3,6 +3,8 @@
 use Rattle.std.specs.Prelude.{◌≡◌, List, [], ℕ, zero, suc, ◌≤◌, ◌<◌, ◌+◌, ◌*◌, eqb, length, get_or, if◌then◌else◌}
 use Rattle.paper.specs.Limits.{most_bays, most_crossings}
 use Rattle.paper.specs.Yard.{Crossing, crossings, named}
+use Rattle.chains.specs.declared.Link.{Link}
+use Rattle.chains.specs.declared.Link.TheVariants.{EntersFrom, EntersTo, Own, LeavesTo, LeavesFrom}
 
 -- what a crossing is looked for by: the bay that it enters, the carrier, the bay that it leaves
 abbrev pub key_of : ℕ → Crossing → ℕ
@@ -16,6 +18,13 @@ Passed plan gone kind key i j = (k : ℕ) → i ≤ k → k < j → key_of kind 
 -- next; 3 to the last before it that leaves the bay that it enters, 4 to the last before it that leaves the bay that it leaves.
 abbrev pub links_each : ℕ
 links_each = 5
+
+abbrev pub place_of : Link → ℕ
+place_of EntersFrom = 0
+place_of EntersTo = 1
+place_of Own = 2
+place_of LeavesTo = 3
+place_of LeavesFrom = 4
 
 -- what of the crossing itself the link goes by, and what of the others
 unfoldable pub own : ℕ → ℕ

@@ -2,74 +2,59 @@
 // and never come back, so a link stays right; a search that follows several puts the first one right up to what it found.
 #![tactic(auto)]
 
-ghost use Rattle.std.specs.Prelude.{◌≡◌, [], ◌<◌};
-ghost use Rattle.paper.specs.Yard.{most_crossings};
-ghost use Rattle.chains.specs.Links.{Linked, Ahead};
+ghost use Rattle.std.specs.Prelude.{[]};
+ghost use Rattle.chains.specs.Links.{Linked, Ahead, place_of};
 ghost use Rattle.chains.specs.Asking.{SearchAsks, SkipAsks, SkipSays, AheadAsks, AheadSays, EnteringAsks, EnteringSays, SkipBackAsks, SkipBackSays, BehindSays, FillAsks};
-
-use docket::{Bay, Carrier};
 
 // Links of a crossing.
 pub const LINKS: usize = 5;
 
-// A bay and a carrier as keys.
-fn bay_key(bay: Bay) -> usize
-    ensures { result ≡ bay.0 }
-{
-    bay.0 as usize
-}
-
-fn carrier_key(carrier: Carrier) -> usize
-    ensures { result ≡ carrier.0 }
-{
-    carrier.0 as usize
-}
-
-// A link as a name, and a name as a link.
-fn wide(link: u16) -> usize
-    ensures { result ≡ link }
-{
-    link as usize
-}
-
-fn narrow(name: usize) -> u16
-    requires { name < most_crossings }
-    ensures { result ≡ name }
-{
-    name as u16
+// What a link leads to, in the order in which the links of a crossing stand.
+#[derive(Clone, Copy)]
+pub enum Link {
+    // the next crossing that enters the bay which this one leaves
+    EntersFrom,
+    // the next that enters the bay which it enters
+    EntersTo,
+    // its carrier's next
+    Own,
+    // the last before it that leaves the bay which it enters
+    LeavesTo,
+    // the last before it that leaves the bay which it leaves
+    LeavesFrom,
 }
 
 // The first name from `start` on, by links, that is not dropped, or the plan's length.
-fn skip(plan: &[u64], gone: &[u8], links: &[u16], start: usize, kind: usize) -> usize
-    requires { SkipAsks plan.now gone.now links.now start kind }
-    ensures { SkipSays plan.now gone.now start kind result }
+fn skip(plan: &[u64], gone: &[u8], links: &[u16], start: usize, link: Link) -> usize
+    requires { SkipAsks plan.now gone.now links.now start (place_of link) }
+    ensures { SkipSays plan.now gone.now start (place_of link) result }
 {
     let mut m = start;
     while m < plan.len() {
         if gone[m] != 1 {
             return m;
         }
-        m = wide(links[m * LINKS + kind]) + 1;
+        m = links[m * LINKS + link as usize] as usize + 1;
     }
     m
 }
 
-// The next name after `name` that is not dropped and to which the link leads, or the plan's length. From there on links of the kind `again` lead further.
+// The next name after `name` that is not dropped and to which the link leads, or the plan's length. From there on links `again` lead further.
 pub fn ahead(
     plan: &[u64],
     gone: &[u8],
     links: &mut [u16],
     name: usize,
-    kind: usize,
-    again: usize,
+    link: Link,
+    again: Link,
 ) -> usize
-    requires { AheadAsks plan.now gone.now links.old name kind again }
-    ensures { AheadSays plan.now gone.now name kind links.new result }
+    requires { AheadAsks plan.now gone.now links.old name (place_of link) (place_of again) }
+    ensures { AheadSays plan.now gone.now name (place_of link) links.new result }
 {
-    let at = name * LINKS + kind;
-    let first = wide(links[at]) + 1;
+    let at = name * LINKS + link as usize;
+    let first = links[at] as usize + 1;
     let r = skip(plan, gone, links, first, again);
-    links[at] = narrow(r - 1);
+    links[at] = (r - 1) as u16;
     r
 }
 
@@ -78,7 +63,7 @@ pub fn next_entering(plan: &[u64], links: &[u16], name: usize) -> usize
     requires { EnteringAsks plan.now links.now name }
     ensures { EnteringSays plan.now name result }
 {
-    wide(links[name * LINKS]) + 1
+    links[name * LINKS + Link::EntersFrom as usize] as usize + 1
 }
 
 // One more than the last name below `start`, by links, that is not dropped, or 0.
@@ -92,7 +77,7 @@ fn skip_back(plan: &[u64], gone: &[u8], links: &[u16], start: usize) -> usize
         if gone[u] != 1 {
             return m;
         }
-        m = wide(links[u * LINKS + 4]);
+        m = links[u * LINKS + Link::LeavesFrom as usize] as usize;
     }
     m
 }
@@ -102,10 +87,10 @@ pub fn behind(plan: &[u64], gone: &[u8], links: &mut [u16], name: usize) -> usiz
     requires { SearchAsks plan.now gone.now links.old name }
     ensures { BehindSays plan.now gone.now name links.new result }
 {
-    let at = name * LINKS + 3;
-    let first = wide(links[at]);
+    let at = name * LINKS + Link::LeavesTo as usize;
+    let first = links[at] as usize;
     let r = skip_back(plan, gone, links, first);
-    links[at] = narrow(r);
+    links[at] = r as u16;
     r
 }
 
@@ -117,16 +102,14 @@ fn fill_ahead(plan: &[u64], links: &mut [u16])
     let count = plan.len();
     let mut entering = [count; paper::BAYS];
     let mut moving = [count; paper::BAYS];
-    let mut m = count;
-    while m > 0 {
-        m -= 1;
+    for m in (0..count).rev() {
         let x = plans::crossing_at(plan, m);
-        let from = bay_key(x.from);
-        let to = bay_key(x.to);
-        let carrier = carrier_key(x.carrier);
-        links[m * LINKS] = narrow(entering[from] - 1);
-        links[m * LINKS + 1] = narrow(entering[to] - 1);
-        links[m * LINKS + 2] = narrow(moving[carrier] - 1);
+        let from = x.from.0 as usize;
+        let to = x.to.0 as usize;
+        let carrier = x.carrier.0 as usize;
+        links[m * LINKS + Link::EntersFrom as usize] = (entering[from] - 1) as u16;
+        links[m * LINKS + Link::EntersTo as usize] = (entering[to] - 1) as u16;
+        links[m * LINKS + Link::Own as usize] = (moving[carrier] - 1) as u16;
         entering[to] = m;
         moving[carrier] = m;
     }
@@ -139,15 +122,13 @@ fn fill_behind(plan: &[u64], links: &mut [u16])
     ensures { Linked plan.now [] links.new }
 {
     let mut leaving = [0usize; paper::BAYS];
-    let mut m = 0;
-    while m < plan.len() {
+    for m in 0..plan.len() {
         let x = plans::crossing_at(plan, m);
-        let from = bay_key(x.from);
-        let to = bay_key(x.to);
-        links[m * LINKS + 3] = narrow(leaving[to]);
-        links[m * LINKS + 4] = narrow(leaving[from]);
-        m += 1;
-        leaving[from] = m;
+        let from = x.from.0 as usize;
+        let to = x.to.0 as usize;
+        links[m * LINKS + Link::LeavesTo as usize] = leaving[to] as u16;
+        links[m * LINKS + Link::LeavesFrom as usize] = leaving[from] as u16;
+        leaving[from] = m + 1;
     }
 }
 

@@ -1,6 +1,6 @@
 -- How the check's answer reads as the paper's, and what is left of it once 1 to 6 have passed.
 -- Assumes nothing.
-use Rattle.std.specs.Prelude.{◌≡◌, List, ℕ, ◌≤◌, ◌<◌, length, get_or}
+use Rattle.std.specs.Prelude.{◌≡◌, List, ℕ, ◌≤◌, ◌<◌, length, get_or, Err, Ok}
 use Rattle.std.proofs.Math.Option.{Option, none, some}
 use Rattle.paper.specs.Basics.{or_else, ◌>>=◌}
 use Rattle.paper.specs.Yard.{Yard, Placement, Crossing, after}
@@ -9,12 +9,11 @@ use Rattle.paper.proofs.Playing.{Good}
 use Rattle.docket.specs.Reading.{refusal_of}
 use Rattle.words.specs.Sets.{span}
 use Rattle.yard.specs.Table.{Table}
-use Rattle.checker.specs.declared.Checked.{Checked}
-use Rattle.checker.specs.declared.Checked.TheVariants.{Passed, Refused}
+use Rattle.checker.specs.Checked.{Checked}
 
 abbrev pub checked_of : Checked → Option Refusal
-checked_of Passed = none
-checked_of (Refused r) = some (refusal_of r)
+checked_of (Ok tt) = none
+checked_of (Err r) = some (refusal_of r)
 
 -- once 1 to 6 have passed: each carrier has a start and a goal, there are no more of them than bays, and every bay has its place in the table
 pub record Placed (starts goals : Placement) : Type 0 where

@@ -11,41 +11,21 @@ ghost use Rattle.replay.specs.Playing.{InRows, legality_of};
 ghost use Rattle.checker.specs.Reading.{checked_of, Placed, nine_ten, NineTen};
 
 use docket::Refusal;
-use replay::{Away, Legality};
 use words::{SPAN, WORDS};
-use yard::{Opened, Yard};
-
-// What the check answers.
-#[derive(Clone, Copy)]
-pub enum Checked {
-    Passed,
-    Refused(Refusal),
-}
-
-// The carriers at their starts.
-fn place(start: &[u16], at: &mut [u16])
-    requires { length at.old ≡ length start.now }
-    ensures { at.new ≡ start.now }
-{
-    let mut c = 0;
-    while c < start.len() {
-        at[c] = start[c];
-        c += 1;
-    }
-}
+use yard::Yard;
 
 // 9 where a crossing was illegal; else 10 where a carrier is not home.
-fn judge(legality: Legality, at: &[u16], goal: &[u16]) -> Checked
+fn judge(legality: Result<(), u64>, at: &[u16], goal: &[u16]) -> Result<(), Refusal>
     requires { (length at.now ≡ length goal.now) × (length goal.now ≤ span) }
     ensures { checked_of result ≡ nine_ten (legality_of legality) at.now goal.now }
 {
-    if let Legality::Illegal(i) = legality {
-        return Checked::Refused(Refusal::Illegal(i));
+    if let Err(i) = legality {
+        return Err(Refusal::Illegal(i));
     }
     let away = replay::lowest_away(at, goal);
     match away {
-        Away::Lowest(c) => Checked::Refused(Refusal::Missed(c)),
-        Away::Nobody => Checked::Passed,
+        Some(c) => Err(Refusal::Missed(c)),
+        None => Ok(()),
     }
 }
 
@@ -57,11 +37,11 @@ fn check_crossings(
     goal: &[u16],
     plan: &[u64],
     at: &mut [u16],
-) -> Checked
+) -> Result<(), Refusal>
     requires { (length at.old ≡ length start.now) × Placed start.now goal.now × InRows rows table.now start.now }
     ensures { NineTen rows table.now start.now goal.now (crossings plan.now) (checked_of result) }
 {
-    place(start, at);
+    at.copy_from_slice(start);
     let mut occupied = [0u8; SPAN];
     replay::occupy(start, &mut occupied);
     let legality = replay::play(table, rows, at, &mut occupied, plan);
@@ -69,7 +49,13 @@ fn check_crossings(
 }
 
 // The same, with a working array of its own.
-fn check_from(table: &[u64], rows: usize, start: &[u16], goal: &[u16], plan: &[u64]) -> Checked
+fn check_from(
+    table: &[u64],
+    rows: usize,
+    start: &[u16],
+    goal: &[u16],
+    plan: &[u64],
+) -> Result<(), Refusal>
     requires { Placed start.now goal.now × InRows rows table.now start.now }
     ensures { NineTen rows table.now start.now goal.now (crossings plan.now) (checked_of result) }
 {
@@ -87,46 +73,50 @@ fn check_in(
     plan: &[u64],
     rows: usize,
     table: &mut [u64],
-) -> Checked
+) -> Result<(), Refusal>
     requires { (rows ≤ span)
         × (rows * words ≤ length table.old)
         × (bays ≤ span → bays ≤ rows)
         × ((x : ℕ) → mem table.old x ≡ false) }
     ensures { checked_of result ≡ check_of (order bays rails.now start.now goal.now) plan.now }
 {
-    let opened = yard::first_six(bays as usize, rails, start, goal, plan.len(), table);
-    match opened {
-        Opened::Refused(r) => Checked::Refused(r),
-        Opened::Open(_) => check_from(table, rows, start, goal, plan),
-    }
+    yard::first_six(bays as usize, rails, start, goal, plan.len(), table)?;
+    check_from(table, rows, start, goal, plan)
 }
 
 // The rows of a small table: as many as a word holds bays.
 const NARROW: usize = SPAN / WORDS;
 
-// The check of a yard that has its rows in a small table.
-fn check_narrow(bays: u64, rails: &[u16], start: &[u16], goal: &[u16], plan: &[u64]) -> Checked
-    requires { bays * words ≤ span }
-    ensures { checked_of result ≡ check_of (order bays rails.now start.now goal.now) plan.now }
-{
-    let mut table = [0u64; NARROW * WORDS];
-    check_in(bays, rails, start, goal, plan, NARROW, &mut table)
-}
+// The words of a small table.
+const NARROW_TABLE: usize = NARROW * WORDS;
 
-// The check of any yard.
-fn check_wide(bays: u64, rails: &[u16], start: &[u16], goal: &[u16], plan: &[u64]) -> Checked
+// The check in a table of so many words, which has a row for each bay of the yard.
+fn check_by<const TABLE: usize>(
+    bays: u64,
+    rails: &[u16],
+    start: &[u16],
+    goal: &[u16],
+    plan: &[u64],
+) -> Result<(), Refusal>
+    requires { (TABLE ≤ span * words) × (bays ≤ span → bays * words ≤ TABLE) }
     ensures { checked_of result ≡ check_of (order bays rails.now start.now goal.now) plan.now }
 {
-    let mut table = [0u64; Yard::TABLE];
-    check_in(bays, rails, start, goal, plan, SPAN, &mut table)
+    let mut table = [0u64; TABLE];
+    check_in(bays, rails, start, goal, plan, TABLE / WORDS, &mut table)
 }
 
 // The check tests 1 to 6, then 9, 10. A small yard has a small table, which is sooner cleared.
-pub fn check(bays: u64, rails: &[u16], start: &[u16], goal: &[u16], plan: &[u64]) -> Checked
+pub fn check(
+    bays: u64,
+    rails: &[u16],
+    start: &[u16],
+    goal: &[u16],
+    plan: &[u64],
+) -> Result<(), Refusal>
     ensures { checked_of result ≡ check_of (order bays rails.now start.now goal.now) plan.now }
 {
     if bays <= NARROW as u64 {
-        return check_narrow(bays, rails, start, goal, plan);
+        return check_by::<NARROW_TABLE>(bays, rails, start, goal, plan);
     }
-    check_wide(bays, rails, start, goal, plan)
+    check_by::<{ Yard::TABLE }>(bays, rails, start, goal, plan)
 }

@@ -56,10 +56,8 @@ fn meet_rows(s: &[u64], a: usize, t: &[u64], b: usize, both: &mut [u64])
     requires { (a * words + words ≤ length s.now) × (b * words + words ≤ length t.now) × (length both.old ≡ words) }
     ensures { (x : ℕ) → x < span → mem both.new x ≡ mem_row s.now a x and mem_row t.now b x }
 {
-    let mut i = 0;
-    while i < words::WORDS {
+    for i in 0..words::WORDS {
         both[i] = s[a * words::WORDS + i] & t[b * words::WORDS + i];
-        i += 1;
     }
 }
 

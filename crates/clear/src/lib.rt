@@ -6,7 +6,7 @@ ghost use Rattle.acting.specs.Acting.{Ready};
 ghost use Rattle.clear.specs.Clearing.{ClearAsks, ClearSays};
 
 use docket::Bay;
-use keeping::{First, Kept, Two};
+use keeping::{First, Two};
 
 // Clear, at the junction v with the follower at b.
 pub fn clear(
@@ -50,7 +50,7 @@ pub fn clear(
         );
     }
     let first = keeping::keep_one(table, &others, &held, 0, placement, standing, empty, out);
-    let Kept::One(kept, made) = first else {
+    let Some((kept, made)) = first else {
         return Two::Short;
     };
     let next = First {

@@ -1,6 +1,8 @@
 -- Going on in code is the paper's: the attempts are with the junction's other neighbours, and what the first that succeeds has logged in the rest of the
 -- list stands in the whole behind what was made before.
 -- Assumes nothing.
+use Rattle.std.proofs.lemmas.Option.{same_Some}
+use Rattle.std.proofs.Common.{None, Some}
 use Rattle.std.specs.Prelude.{if◌then◌else◌}
 use mathlib.Core.Path.{◌≡◌, sym, ◌∙◌, ap, refl}
 use mathlib.Core.Bool.{Bool, true, false, not}
@@ -30,8 +32,7 @@ use Rattle.keeping.specs.Keeping.{KeptAlone}
 use Rattle.keeping.proofs.Around.{filter-both, filter_same, around-of}
 use Rattle.either_way.specs.Either.{Others}
 use Rattle.clear_on.specs.Going.{AtJunction, Logged, PairBy, GoesOn, AfterAsks, After, TwoCleared, ClearsTwo}
-use Rattle.clear_on.specs.declared.Pair.{Pair}
-use Rattle.clear_on.specs.declared.Pair.TheVariants.{Both, Missing}
+use Rattle.clear_on.specs.Pair.{Pair}
 use Rattle.attempts.proofs.Attempting.{tallied-logged}
 pub use Rattle.attempts.proofs.Attempting.{ready-copy, in-bays}
 
@@ -57,39 +58,41 @@ others-is {n} t v b e w₁ w₂ w₃ most hv f g h =
 
 -- ## Going on
 
-pub pair-none : (at : Tally) (k : ℕ) → PairBy at k Missing
+pub pair-none : (at : Tally) (k : ℕ) → PairBy at k None
 pair-none at k = record { few = λ x y m e. never (cc) }
 
-pub pair-both : {at : Tally} {k : ℕ} {m : Tally} {x y : Numbered} → m.crossings ≤ at.crossings + k → at.crossings ≤ m.crossings → PairBy at k (Both x y m)
-pair-both {m = m} h l = record { few = λ u v w e. let c : m ≡ w = cc in (rw c at h, rw c at l) }
+pub pair-both : {at : Tally} {k : ℕ} {m : Tally} {x y : Numbered} → m.crossings ≤ at.crossings + k → at.crossings ≤ m.crossings → PairBy at k (Some (x, y, m))
+pair-both {m = m} h l = record { few = λ u v w e. let c : m ≡ w = ap (λ t. t.2) (same_Some _ _ e) in (rw c at h, rw c at l) }
 
-pub gone-none : {o : Option Cleared} {log : List ℕ} → o ≡ none → GoesOn o log Missing
+pub gone-none : {o : Option Cleared} {log : List ℕ} → o ≡ none → GoesOn o log None
 gone-none e = record { both = λ x y m z. never (cc); missing = λ z. e }
 
 pub gone-both : {o : Option Cleared} {log : List ℕ} {x y : Numbered} {m : Tally} → (xs : Made) → o ≡ some (record { made = xs; kept = x.0 ∷ y.0 ∷ [] }) → Logged xs log m
-    → GoesOn o log (Both x y m)
+    → GoesOn o log (Some (x, y, m))
 gone-both {x = x} {y = y} {m = m} xs e d = record {
   both = λ u v w z.
-      let a : x ≡ u = cc in
-      let b : y ≡ v = cc in
-      let k : m ≡ w = cc in
+      let q = same_Some _ _ z in
+      let a : x ≡ u = ap (λ t. t.0) q in
+      let b : y ≡ v = ap (λ t. t.1) q in
+      let k : m ≡ w = ap (λ t. t.2) q in
       (xs, rw (← a, ← b) e, rw (← k) d);
   missing = λ z. never (cc);
 }
 
 -- ## After so much was made
 
-pub after_both : {made more sum : Tally} {x y : Numbered} → Added made more sum → After made (Both x y more) (Both x y sum)
+pub after_both : {made more sum : Tally} {x y : Numbered} → Added made more sum → After made (Some (x, y, more)) (Some (x, y, sum))
 after_both {more = more} {sum = sum} {x = x} {y = y} a = record {
   both = λ u v w e.
-      let d : x ≡ u = cc in
-      let f : y ≡ v = cc in
-      let k : sum ≡ w = cc in
+      let q = same_Some _ _ e in
+      let d : x ≡ u = ap (λ t. t.0) q in
+      let f : y ≡ v = ap (λ t. t.1) q in
+      let k : sum ≡ w = ap (λ t. t.2) q in
       (more, rw (d, f), rw k at a);
   missing = λ e. never (cc);
 }
 
-pub after-missing : {made : Tally} → After made Missing Missing
+pub after-missing : {made : Tally} → After made None None
 after-missing = record { both = λ u v w e. never (cc); missing = λ e. refl }
 
 -- few enough for a count
@@ -167,22 +170,23 @@ module _ (Y : Yard) (L M : Carrier) (v b : Bay) (p : Placement) where
       })
 
   pub two_at_once : {n : ℕ} {out p' standing' empty' out' : List ℕ} {x y : Numbered} {m : Tally} → (once.kept ≡ x.0 ∷ y.0 ∷ []) × Tallied once.made n p p' standing' empty' out nothing out' m
-      → ClearsTwo Y L M v b p p' out' (Both x y m)
+      → ClearsTwo Y L M v b p p' out' (Some (x, y, m))
   two_at_once {x = x} {y = y} {m = m} d =
       let k = kept-both d.0 in
       record {
         both = λ u w i z.
-            let a : x ≡ u = cc in
-            let c : y ≡ w = cc in
-            let e : m ≡ i = cc in
+            let q = same_Some _ _ z in
+            let a : x ≡ u = ap (λ t. t.0) q in
+            let c : y ≡ w = ap (λ t. t.1) q in
+            let e : m ≡ i = ap (λ t. t.2) q in
             rw (← a, ← c, ← e) (record { kept = k.0; logged = rw k.1 (tallied-logged d.1); moved = d.1.moved });
         missing = λ z. never (cc);
       }
 
-  two-missing : {p' log : List ℕ} → length all.kept < 2 → ClearsTwo Y L M v b p p' log Missing
+  two-missing : {p' log : List ℕ} → length all.kept < 2 → ClearsTwo Y L M v b p p' log None
   two-missing h = record { both = λ u w i z. never (cc); missing = λ z. h }
 
-  pub two-few : {p' log : List ℕ} → once.kept ≡ [] → ClearsTwo Y L M v b p p' log Missing
+  pub two-few : {p' log : List ℕ} → once.kept ≡ [] → ClearsTwo Y L M v b p p' log None
   two-few e = two-missing (kept-few e)
 
   pub two-in-time : {n : ℕ} {out p' standing' empty' out₁ log out' : List ℕ} {e : ℕ} {m : Tally} {rest r : Pair} → KeptAlone once n p out nothing p' standing' empty' out₁ e m

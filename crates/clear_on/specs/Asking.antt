@@ -11,7 +11,7 @@ use Rattle.either_way.specs.Either.{go_on_with}
 use Rattle.attempts.specs.declared.Lead.{Lead}
 use Rattle.attempts.specs.declared.OneKept.{OneKept}
 use Rattle.clear_on.specs.Going.{PairBy, GoesOn, ClearsTwo}
-use Rattle.clear_on.specs.declared.Pair.{Pair}
+use Rattle.clear_on.specs.Pair.{Pair}
 
 -- the paper's going on
 pub record GoOnSays (one : OneKept) (table p standing log : List ℕ) (r : Pair) : Type 0 where

@@ -10,24 +10,15 @@ ghost use Rattle.clear_on.specs.Asking.{GoOnSays, ClearTwoAsks, ClearTwoSays};
 use acting::Tally;
 use attempts::{Lead, OneKept};
 use docket::Bay;
-use keeping::{Kept, Two};
-
-// The two bays that are kept, with what was made for them, or that there are not two.
-#[derive(Clone, Copy)]
-pub enum Pair {
-    Both(Bay, Bay, Tally),
-    Missing,
-}
+use keeping::Two;
 
 // The bays kept by what is lent the rest of the list, after so much was made.
-pub fn after(made: Tally, rest: Pair) -> Pair
+pub fn after(made: Tally, rest: Option<(Bay, Bay, Tally)>) -> Option<(Bay, Bay, Tally)>
     requires { AfterAsks made rest }
     ensures { After made rest result }
 {
-    match rest {
-        Pair::Both(x, y, more) => Pair::Both(x, y, acting::add(made, more)),
-        Pair::Missing => Pair::Missing,
-    }
+    let (x, y, more) = rest?;
+    Some((x, y, acting::add(made, more)))
 }
 
 // Clearing goes on around the junction with the one kept bay.
@@ -38,7 +29,7 @@ pub fn go_on(
     standing: &[u16],
     empty: &[u64],
     out: &mut [u64],
-) -> Pair
+) -> Option<(Bay, Bay, Tally)>
     requires ready { Ready table.now placement.now standing.now empty.now }
     requires kept_asks { KeptAsks one placement.now standing.now }
     ensures { GoOnSays one
@@ -49,11 +40,8 @@ pub fn go_on(
     words::join_row(&mut others, table, one.lead.junction.0 as usize);
     words::remove(&mut others, one.behind.0 as usize);
     words::remove(&mut others, e.0 as usize);
-    let found = either_way::either_way(table, &others, one, placement, standing, empty, out);
-    let Kept::One(x, made) = found else {
-        return Pair::Missing;
-    };
-    Pair::Both(x, e, made)
+    let (x, made) = either_way::either_way(table, &others, one, placement, standing, empty, out)?;
+    Some((x, e, made))
 }
 
 // Clear, with the leader at the junction and the follower at b: once through the neighbours, and on from there with one kept bay. The placement
@@ -66,7 +54,7 @@ pub fn clear_two(
     standing: &mut [u16],
     empty: &mut [u64],
     out: &mut [u64],
-) -> Pair
+) -> Option<(Bay, Bay, Tally)>
     requires ready { Ready table.now placement.old standing.old empty.old }
     requires clear_two_asks { ClearTwoAsks lead b.0 placement.old standing.old }
     ensures { ClearTwoSays lead b.0
@@ -75,7 +63,7 @@ pub fn clear_two(
 {
     let cleared = clear::clear(table, lead.junction, b, placement, standing, empty, out);
     match cleared {
-        Two::Both(x, y, made) => Pair::Both(x, y, made),
+        Two::Both(x, y, made) => Some((x, y, made)),
         Two::Single(kept, made) => {
             let one = OneKept {
                 lead,
@@ -86,6 +74,6 @@ pub fn clear_two(
             let rest = go_on(table, one, placement, standing, empty, &mut out[from..]);
             after(made, rest)
         }
-        Two::Short => Pair::Missing,
+        Two::Short => None,
     }
 }

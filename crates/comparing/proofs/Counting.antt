@@ -21,7 +21,6 @@ use Rattle.comparing.specs.Comparing.{carrier_of, first_above}
 use Rattle.comparing.specs.Statements.{Counts}
 
 pub record Counting (list counts : List ℕ) (i : ℕ) : Type 0 where
-  pub within : i ≤ length list
   pub long : length counts ≡ most_carriers
   pub low : (c : Carrier) → get_or counts c 0 ≤ i
   pub whole : (c : Carrier) → c < most_carriers → get_or counts c 0 + count_of c (crossings (drop i list)) ≡ count_of c (crossings list)
@@ -29,7 +28,6 @@ pub record Counting (list counts : List ℕ) (i : ℕ) : Type 0 where
 
 pub counting-start : (list : List ℕ) → Counting list (replicate most_carriers 0) 0
 counting-start list = record {
-  within = omega arith;
   long = length-replicate {A = ℕ} most_carriers 0;
   low = low_zeros most_carriers;
   whole = λ c h. let z = get_or-replicate {A = ℕ} most_carriers c 0 0 h in omega arith;
@@ -58,7 +56,6 @@ module _ (list counts : List ℕ) (i : ℕ) (k : Counting list counts i) where
         let inside : c < length counts = rw k.long h in
         let put = get_or counts c 0 + 1 in
         record {
-          within = omega arith;
           long = length-set counts c put ∙ k.long;
           low = let l = k.low c in low-set counts c put i (i + 1) k.low (omega arith) (omega arith);
           whole = λ d b.

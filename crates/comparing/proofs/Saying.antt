@@ -1,4 +1,5 @@
 -- What comparing says, way out by way out: each refusal comes after the tests before it have passed, and past the last the differences are those counted.
+use Rattle.std.proofs.Common.{Err, Ok}
 use mathlib.Core.Path.{◌≡◌, sym, ◌∙◌, ap, ap₂}
 use mathlib.Core.Bool.{false}
 use mathlib.Core.List.{List, map}
@@ -23,8 +24,7 @@ use Rattle.paper.specs.Docket.{granted}
 use Rattle.paper.proofs.Reach.{count-length}
 use Rattle.differences.specs.Filled.{FillSays}
 use Rattle.comparing.specs.Statements.{Counts, CountSays, DifferSays}
-use Rattle.comparing.specs.declared.Counted.{Counted}
-use Rattle.docket.specs.declared.Verdict.TheVariants.{Granted, Denied}
+use Rattle.comparing.specs.Counted.{Counted}
 use Rattle.comparing.proofs.Exchanged.{Passed, passed-granted}
 
 -- what is counted for each carrier gives the differences
@@ -47,15 +47,15 @@ filled-differences first second firsts seconds filled f s says =
 
 module _ (first second : List ℕ) (lent : List ℤ) where
   -- a refusal leaves the list as it was
-  refused : (r : Refusal) → refusal first second (length lent) ≡ some (refusal_of r) → DifferSays first second lent (Denied r) lent
+  refused : (r : Refusal) → refusal first second (length lent) ≡ some (refusal_of r) → DifferSays first second lent (Err r) lent
   unfolding comparison
   refused r e = record { answers = rw e; leaves = rw e }
 
-  pub says-first-long : most_crossings < length first → DifferSays first second lent (Denied Size) lent
+  pub says-first-long : most_crossings < length first → DifferSays first second lent (Err Size) lent
   unfolding refusal
   says-first-long h = refused Size (rw (or_left _ (ltb most_crossings (length second)) (lt-ltb most_crossings (length first) h)))
 
-  pub says-second-long : most_crossings < length second → DifferSays first second lent (Denied Size) lent
+  pub says-second-long : most_crossings < length second → DifferSays first second lent (Err Size) lent
   unfolding refusal
   says-second-long h = refused Size (rw (or_right (ltb most_crossings (length first)) _ (lt-ltb most_crossings (length second) h)))
 
@@ -63,17 +63,17 @@ module _ (first second : List ℕ) (lent : List ℤ) where
     short : ltb most_crossings (length first) or ltb most_crossings (length second) ≡ false
     short = or-neither _ _ (le-ltb most_crossings (length first) f) (le-ltb most_crossings (length second) s)
 
-    pub says-above : (c : Carried) → some c.0 ≡ or_else (first_above first) (first_above second) → DifferSays first second lent (Denied (Start c)) lent
+    pub says-above : (c : Carried) → some c.0 ≡ or_else (first_above first) (first_above second) → DifferSays first second lent (Err (Start c)) lent
     unfolding refusal
     says-above c e = refused (Start c) (rw (short, ← e))
 
     module _ (low : none ≡ or_else (first_above first) (first_above second)) where
-      pub says-room : (length lent ≡ most_carriers → ⊥) → DifferSays first second lent (Denied (Room most_carriers)) lent
+      pub says-room : (length lent ≡ most_carriers → ⊥) → DifferSays first second lent (Err (Room most_carriers)) lent
       unfolding refusal
       says-room d = refused (Room most_carriers) (rw (short, ← low, ne_eqb (length lent) most_carriers d))
 
       pub says-granted : length lent ≡ most_carriers → (firsts seconds : List ℕ) (filled : List ℤ) {a b : Counted} → CountSays first a firsts → CountSays second b seconds
-          → FillSays seconds firsts filled → (n : ℕ) → n ≡ equal_leading first second → DifferSays first second lent (Granted n) filled
+          → FillSays seconds firsts filled → (n : ℕ) → n ≡ equal_leading first second → DifferSays first second lent (Ok n) filled
       says-granted e firsts seconds filled cf cs says n is =
           let lows = none_both (first_above first) (first_above second) (sym low) in
           let passed : Passed first second (length lent) = record {

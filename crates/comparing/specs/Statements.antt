@@ -1,19 +1,18 @@
 -- What the functions promise.
 -- Assumes nothing.
-use Rattle.std.specs.Prelude.{◌≡◌, List, ℕ, ◌<◌, ℤ, length, get_or}
+use Rattle.std.specs.Prelude.{◌≡◌, List, ℕ, ◌<◌, ℤ, length, get_or, Err, Ok}
 use Rattle.std.proofs.Math.Option.{Option, none, some}
 use Rattle.paper.specs.Limits.{most_carriers}
 use Rattle.paper.specs.Yard.{Carrier, crossings}
 use Rattle.paper.specs.Dependence.{count_of}
 use Rattle.docket.specs.Reading.{verdict_of}
-use Rattle.docket.specs.declared.Verdict.{Verdict as Held}
+use Rattle.docket.specs.Verdict.{Verdict as Held}
 use Rattle.comparing.specs.Comparing.{first_above, comparison, part_by, longer_by, differences_by, number_by, value_by}
-use Rattle.comparing.specs.declared.Counted.{Counted}
-use Rattle.comparing.specs.declared.Counted.TheVariants.{All, Above}
+use Rattle.comparing.specs.Counted.{Counted}
 
 abbrev pub counted_of : Counted → Option Carrier
-counted_of All = none
-counted_of (Above c) = some c.0
+counted_of (Ok tt) = none
+counted_of (Err c) = some c.0
 
 -- each number is the count of one carrier's crossings
 abbrev pub Counts : List ℕ → List ℕ → Type 0

@@ -10,86 +10,74 @@ ghost use Rattle.comparing.specs.Comparing.{number_by, value_by};
 ghost use Rattle.docket.specs.Reading.{verdict_of};
 ghost use Rattle.comparing.specs.Statements.{counted_of, CountSays, DifferSays, CompareSays};
 
-use docket::{Carrier, Refusal, Verdict};
+use docket::{Carrier, Refusal};
 use yard::Yard;
 
-// What counting a list answers: each carrier has its count, or the first carrier number that has none.
-#[derive(Clone, Copy)]
-enum Counted {
-    All,
-    Above(Carrier),
-}
-
 // Counts each carrier's crossings, up to the first carrier number that no yard has.
-fn count(list: &[u64], counts: &mut [u32; Yard::CARRIERS]) -> Counted
+fn count(list: &[u64], counts: &mut [u32; Yard::CARRIERS]) -> Result<(), Carrier>
     requires { (length list.now ≤ most_crossings) × (counts.old ≡ replicate most_carriers 0) }
     ensures { CountSays list.now result counts.new }
 {
-    let mut i = 0;
-    while i < list.len() {
-        let x = docket::unpack(list[i]);
-        let carrier = x.carrier;
+    for number in list {
+        let carrier = docket::unpack(*number).carrier;
         let place = carrier.0 as usize;
         if Yard::CARRIERS <= place {
-            return Counted::Above(carrier);
+            return Err(carrier);
         }
         counts[place] += 1;
-        i += 1;
     }
-    Counted::All
+    Ok(())
 }
 
 // The carrier number that the one list stops at, or else the other.
-fn earlier(one: Counted, other: Counted) -> Counted
+fn earlier(one: Result<(), Carrier>, other: Result<(), Carrier>) -> Result<(), Carrier>
     ensures { counted_of result ≡ or_else (counted_of one) (counted_of other) }
 {
-    match one {
-        Counted::Above(carrier) => Counted::Above(carrier),
-        Counted::All => other,
-    }
+    one?;
+    other
 }
 
 // The number of equal leading crossings, with the differences written, or why there is none.
-fn differ(first: &[u64], second: &[u64], differences: &mut [i64]) -> Verdict
+fn differ(first: &[u64], second: &[u64], differences: &mut [i64]) -> Result<u64, Refusal>
     ensures { DifferSays first.now second.now differences.old result differences.new }
 {
     if Yard::CROSSINGS < first.len() {
-        return Verdict::Denied(Refusal::Size);
+        return Err(Refusal::Size);
     }
     if Yard::CROSSINGS < second.len() {
-        return Verdict::Denied(Refusal::Size);
+        return Err(Refusal::Size);
     }
     let mut firsts = [0u32; Yard::CARRIERS];
     let of_first = count(first, &mut firsts);
     let mut seconds = [0u32; Yard::CARRIERS];
     let of_second = count(second, &mut seconds);
     let of_both = earlier(of_first, of_second);
-    if let Counted::Above(carrier) = of_both {
-        return Verdict::Denied(Refusal::Start(carrier));
+    if let Err(carrier) = of_both {
+        return Err(Refusal::Start(carrier));
     }
     if differences.len() != Yard::CARRIERS {
-        return Verdict::Denied(Refusal::Room(Yard::CARRIERS as u64));
+        return Err(Refusal::Room(Yard::CARRIERS as u64));
     }
     differences::fill(&firsts, &seconds, differences);
-    Verdict::Granted(leading::equal_leading(first, second) as u64)
+    Ok(leading::equal_leading(first, second) as u64)
 }
 
 // What C and Rust are told of the answer: its number, its value, and which list's rest is handed back.
-fn number_of(answer: Verdict) -> u64
+fn number_of(answer: Result<u64, Refusal>) -> u64
     ensures { result ≡ number_by (verdict_of answer) }
 {
     match answer {
-        Verdict::Granted(_) => 0,
-        Verdict::Denied(r) => docket::number(r),
+        Ok(_) => 0,
+        Err(r) => docket::number(r),
     }
 }
 
-fn value_of(answer: Verdict) -> u64
+fn value_of(answer: Result<u64, Refusal>) -> u64
     ensures { result ≡ value_by (verdict_of answer) }
 {
     match answer {
-        Verdict::Granted(equal) => equal,
-        Verdict::Denied(r) => docket::carried(r),
+        Ok(equal) => equal,
+        Err(r) => docket::carried(r),
     }
 }
 

@@ -1,5 +1,6 @@
 -- What the code's crossings and refusals read as tells any two of them apart, so a statement about the reading fixes the value;
 -- and a crossing and its number are had back from each other.
+use Rattle.std.proofs.Common.{Err, Ok}
 use mathlib.Core.Path.{◌≡◌, refl, sym, ◌∙◌, ap}
 use mathlib.Core.Option.{Option}
 use Prim.Native.Nat.{ℕ, ◌<◌, ◌^◌}
@@ -11,8 +12,7 @@ use Rattle.docket.specs.Reading.{crossing_of, refusal_of, row_of, verdict_of}
 use Rattle.docket.specs.declared.Crossing.{Crossing as Held}
 use Rattle.docket.specs.declared.Refusal.{Refusal}
 use Rattle.docket.specs.declared.Row.{Row}
-use Rattle.docket.specs.declared.Verdict.{Verdict}
-use Rattle.docket.specs.declared.Verdict.TheVariants.{Granted, Denied}
+use Rattle.docket.specs.Verdict.{Verdict}
 use Rattle.docket.specs.declared.Refusal.TheVariants as code
 
 pub crossing-tells : Telling crossing_of
@@ -93,9 +93,9 @@ pub verdict-tells : Telling verdict_of
 verdict-tells = telling-by verdict_of verdict_for verdict-back
   where
     verdict_for : paper.Verdict → Verdict
-    verdict_for (paper.granted n) = Granted n
-    verdict_for (paper.denied r) = Denied (refusal_for r)
+    verdict_for (paper.granted n) = Ok n
+    verdict_for (paper.denied r) = Err (refusal_for r)
 
     verdict-back : (v : Verdict) → verdict_for (verdict_of v) ≡ v
-    verdict-back (Granted n) = refl
-    verdict-back (Denied r) = ap Denied (refusal-back r)
+    verdict-back (Ok n) = refl
+    verdict-back (Err r) = ap Err (refusal-back r)

@@ -1,13 +1,12 @@
 -- How the code's crossings and refusals read as the paper's.
 -- Assumes nothing.
-use Rattle.std.specs.Prelude.{Bool, true, false, ℕ}
+use Rattle.std.specs.Prelude.{Bool, true, false, ℕ, Err, Ok}
 use Rattle.std.proofs.Math.Option.{Option, none, some}
 use Rattle.paper.specs.Yard.{Crossing, crossing}
 use Rattle.paper.specs.Docket as paper
 use Rattle.docket.specs.declared.Crossing.{Crossing as Held}
 use Rattle.docket.specs.declared.Refusal.{Refusal}
-use Rattle.docket.specs.declared.Verdict.{Verdict}
-use Rattle.docket.specs.declared.Verdict.TheVariants.{Granted, Denied}
+use Rattle.docket.specs.Verdict.{Verdict}
 use Rattle.docket.specs.declared.Refusal.TheVariants as code
 use Rattle.docket.specs.declared.Row.{Row}
 use Rattle.docket.specs.declared.Row.TheVariants.{Plain, Carrying}
@@ -46,8 +45,8 @@ row_of (Plain n) = (n, none)
 row_of (Carrying n v) = (n, some v)
 
 abbrev pub verdict_of : Verdict → paper.Verdict
-verdict_of (Granted n) = paper.granted n
-verdict_of (Denied r) = paper.denied (refusal_of r)
+verdict_of (Ok n) = paper.granted n
+verdict_of (Err r) = paper.denied (refusal_of r)
 
 -- there is an answer
 abbrev pub is_some : {A : Type 0} → Option A → Bool

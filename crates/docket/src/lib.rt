@@ -73,13 +73,6 @@ pub enum Refusal {
     BadReports(u64),
 }
 
-// What a function answers that hands back a number: that number (a length, a count), or why there is none.
-#[derive(Clone, Copy)]
-pub enum Verdict {
-    Granted(u64),
-    Denied(Refusal),
-}
-
 // A row of the table: its number alone, or its number and what the refusal carries.
 #[derive(Clone, Copy)]
 enum Row {

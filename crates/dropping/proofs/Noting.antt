@@ -1,57 +1,52 @@
 -- The names to be looked at again are noted one crossing at a time.
 use mathlib.Core.Path.{◌≡◌, refl, sym, ◌∙◌, ap}
-use mathlib.Core.Bool.{Bool, true, false}
+use mathlib.Core.Bool.{Bool}
 use mathlib.Core.List.{List}
 use Prim.Native.Nat.{ℕ, suc, ◌≤◌, ◌<◌, ◌+◌}
 use native.Mathlib.Omega.{arith}
 use lib.Dec.{eqb, ltb}
 use lib.ListN.{get_or}
 use borrow.Author.Tests.{eqb-true, eqb-false, eq-eqb, ne_eqb, ltb-true, ltb-false}
-use Rattle.paper.specs.Basics.{◌and◌, ◌or◌}
+use Rattle.paper.specs.Basics.{◌or◌}
 use Rattle.paper.specs.Yard.{Bay, Carrier, Crossing, crossings, named}
-use Rattle.paper.proofs.Tests.{by_cases, not-both, and_left, and_right, or-false, or-none}
+use Rattle.paper.proofs.Tests.{by_cases, not-both, or-false, or-none}
 use Rattle.trips.proofs.Freeing.{LastLeaving, Noted}
 use Rattle.chains.specs.Links.{Passed}
-use Rattle.returning.proofs.Asking.{in-fails}
-use Rattle.returning.proofs.Passing.{passed-fails}
 
 -- ## The last leaving, looked for downwards
 
--- none of the names from m to below e leaves b
+-- none of the names from m to below e that is in the plan leaves b
 abbrev pub NoneLeaves : List ℕ → List Crossing → Bay → ℕ → ℕ → Type 0
-NoneLeaves gs xs b e m = (j : ℕ) → m ≤ j → j < e → eqb (get_or gs j 0) 0 and eqb (named xs j).from b ≡ false
+NoneLeaves gs xs b e m = (j : ℕ) → m ≤ j → j < e → get_or gs j 0 ≡ 0 → (named xs j).from ≡ b → ⊥
 
 module _ (gs : List ℕ) (xs : List Crossing) (b : Bay) (e : ℕ) where
   pub none-start : NoneLeaves gs xs b e e
-  none-start j l h = absurd (omega arith)
+  none-start j l h z w = omega arith
 
-  pub none_more : (m : ℕ) → NoneLeaves gs xs b e (suc m) → eqb (get_or gs m 0) 0 and eqb (named xs m).from b ≡ false → NoneLeaves gs xs b e m
+  pub none_more : (m : ℕ) → NoneLeaves gs xs b e (suc m) → (get_or gs m 0 ≡ 0 → (named xs m).from ≡ b → ⊥) → NoneLeaves gs xs b e m
   none_more m n h j l k =
-      by_cases (eqb j m) (λ z. rw (eqb-true j m z) h) (λ z. n j (omega (arith, eqb-false j m z)) k)
+      by_cases (eqb j m) (λ t. rw (eqb-true j m t) h) (λ t. n j (omega (arith, eqb-false j m t)) k)
 
   -- and names that are passed do not
   pub none_over : (plan : List ℕ) (key m r : ℕ) → xs ≡ crossings plan → key ≡ b → Passed plan gs 2 key r m → NoneLeaves gs xs b e m → NoneLeaves gs xs b e r
-  none_over plan key m r is at p n j l k =
+  none_over plan key m r is at p n j l k z w =
       by_cases (ltb j m)
-      (λ z.
-      passed-fails _ _ _
-      (λ w. p j l (ltb-true j m z) (ap (λ ys. (named ys j).from) (sym is) ∙ w ∙ sym at)))
-      (λ z. n j (ltb-false j m z) k)
+      (λ t. let one = p j l (ltb-true j m t) (ap (λ ys. (named ys j).from) (sym is) ∙ w ∙ sym at) in omega (arith, one, z))
+      (λ t. n j (ltb-false j m t) k z w)
 
   -- the last leaving is not above m
   not-above : (m : ℕ) → NoneLeaves gs xs b e m → (k : ℕ) → LastLeaving gs xs b e k → k < m
   not-above m n k l =
       by_cases (ltb k m)
-      (λ z. ltb-true k m z)
-      (λ z. not-both (eq-eqb _ _ l.leaves) (in-fails _ _ (n k (ltb-false k m z) l.before) l.stays))
+      (λ t. ltb-true k m t)
+      (λ t. absurd (n k (ltb-false k m t) l.before l.stays l.leaves))
 
-  pub leaving-found : (m : ℕ) → m < e → NoneLeaves gs xs b e (suc m) → eqb (get_or gs m 0) 0 and eqb (named xs m).from b ≡ true
-      → (k : ℕ) → LastLeaving gs xs b e k → m ≡ k
-  leaving-found m h n t k l =
+  pub leaving-found : (m : ℕ) → m < e → NoneLeaves gs xs b e (suc m) → get_or gs m 0 ≡ 0 → (named xs m).from ≡ b → (k : ℕ) → LastLeaving gs xs b e k → m ≡ k
+  leaving-found m h n z w k l =
       let up = not-above (suc m) n k l in
       by_cases (ltb k m)
-      (λ z. absurd (l.last m (ltb-true k m z) h (eqb-true _ _ (and_left _ _ t)) (eqb-true _ _ (and_right _ _ t))))
-      (λ z. omega (arith, ltb-false k m z))
+      (λ t. absurd (l.last m (ltb-true k m t) h z w))
+      (λ t. omega (arith, ltb-false k m t))
 
   pub leaving-none : NoneLeaves gs xs b e 0 → (k : ℕ) → LastLeaving gs xs b e k → e ≡ k
   leaving-none n k l = let z = not-above 0 n k l in absurd (omega arith)

@@ -1,6 +1,6 @@
 -- What the searches and the cuts ask for, and what they say.
 -- Assumes nothing.
-use Rattle.std.specs.Prelude.{◌≡◌, true, List, ℕ, suc, ◌≤◌, ◌<◌, ◌*◌, ◌-◌, length, get_or}
+use Rattle.std.specs.Prelude.{◌≡◌, true, List, ℕ, suc, ◌≤◌, ◌<◌, ◌-◌, length}
 use Rattle.paper.specs.Yard.{Carrier, crossings, named}
 use Rattle.words.specs.Sets.{mem}
 use Rattle.trips.specs.Trips.{is_of}

@@ -3,9 +3,8 @@
 // is found word by word, since a cut sends the look back. A search by bay or carrier goes by links, past the crossings that cannot be what it looks for.
 #![tactic(auto)]
 
-ghost use Rattle.std.specs.Prelude.{◌≡◌, suc, ◌≤◌, ◌<◌, ◌*◌, ◌-◌, eqb, length, get_or, if◌then◌else◌};
-ghost use Rattle.paper.specs.Basics.{◌and◌};
-ghost use Rattle.paper.specs.Yard.{crossings, named};
+ghost use Rattle.std.specs.Prelude.{◌≡◌, suc, ◌≤◌, ◌<◌, ◌*◌, ◌-◌, length, get_or};
+ghost use Rattle.paper.specs.Yard.{crossings};
 ghost use Rattle.trips.specs.Trips.{shorten as shorten_of};
 ghost use Rattle.trips.specs.Names.{left};
 ghost use Rattle.chains.specs.Links.{Linked};
@@ -13,19 +12,8 @@ ghost use Rattle.chains.specs.Asking.{SearchAsks};
 ghost use Rattle.dropping.specs.Going.{Going};
 ghost use Rattle.dropping.specs.Asks.{LeavingSays, OwnSays, NotedSays, TripAsks, DropSays, LookAsks, LookSays};
 
-use docket::{Bay, Carrier};
-
-// The crossing is still in the plan and leaves the bay.
-fn leaves_bay(plan: &[u64], gone: &[u8], name: usize, bay: Bay) -> bool
-    requires { (name < length plan.now) × (length gone.now ≡ length plan.now) }
-    ensures { result ≡ eqb (get_or gone.now name 0) 0 and eqb (named (crossings plan.now) name).from bay.0 }
-{
-    if gone[name] != 0 {
-        return false;
-    }
-    let x = plans::crossing_at(plan, name);
-    x.from.0 == bay.0
-}
+use chains::Link;
+use docket::Carrier;
 
 // The last crossing before `name` that leaves the bay that the crossing enters, or `name` itself where none does. The links lead to it at once.
 fn last_leaving(plan: &[u64], gone: &[u8], links: &mut [u16], name: usize) -> usize
@@ -33,13 +21,11 @@ fn last_leaving(plan: &[u64], gone: &[u8], links: &mut [u16], name: usize) -> us
     ensures { LeavingSays plan.now gone.now links.new name result }
 {
     let x = plans::crossing_at(plan, name);
-    let mut m = chains::behind(plan, gone, links, name);
-    while m > 0 {
-        let next = m - 1;
-        if leaves_bay(plan, gone, next, x.to) {
-            return next;
+    let end = chains::behind(plan, gone, links, name);
+    for m in (0..end).rev() {
+        if gone[m] == 0 && plans::crossing_at(plan, m).from.0 == x.to.0 {
+            return m;
         }
-        m = next;
     }
     name
 }
@@ -49,8 +35,7 @@ fn next_own(plan: &[u64], gone: &[u8], links: &mut [u16], name: usize, last: usi
     requires { (name ≤ last) × SearchAsks plan.now gone.now links.old last }
     ensures { OwnSays plan.now gone.now links.new name last result }
 {
-    let r = chains::ahead(plan, gone, links, name, 2, 2);
-    if r <= last { r } else { last + 1 }
+    chains::ahead(plan, gone, links, name, Link::Own, Link::Own).min(last + 1)
 }
 
 // Where the crossing is the carrier's, the last leaving of the bay that it enters is to be looked at again. The lower of `low` and that name.
@@ -75,7 +60,7 @@ fn note_one(
     }
     let leaving = last_leaving(plan, gone, links, name);
     words::add(todo, leaving);
-    if leaving < low { leaving } else { low }
+    low.min(leaving)
 }
 
 // The same for each crossing from `name` to `last`; the lowest name to be looked at again, or `name`.
@@ -100,13 +85,6 @@ fn note_leavings(
     low
 }
 
-// The byte of a crossing after a cut: dropped where it is the carrier's.
-fn byte_after(byte: u8, own: bool) -> u8
-    ensures { result ≡ if own then 1 else byte }
-{
-    if own { 1 } else { byte }
-}
-
 // The carrier's crossings from `name` to `last` are dropped: the leaving, which is at `name`, and those after it.
 fn drop_trip(
     plan: &[u64],
@@ -122,7 +100,9 @@ fn drop_trip(
     let mut m = next_own(plan, gone, links, name, last);
     gone[name] = 1;
     while m <= last {
-        gone[m] = byte_after(gone[m], returning::is_of(plan, m, carrier));
+        if returning::is_of(plan, m, carrier) {
+            gone[m] = 1;
+        }
         m = next_own(plan, gone, links, m, last);
     }
 }

@@ -3,7 +3,7 @@
 
 ghost use Rattle.edge_lines.specs.Lines.{OneMore, Opened, Broken, Marked, Takes, Closes};
 
-// What is due: the `p` line; or, with its bays and rails and how many ends were read since, a rail.
+// What is due: the `p` line; or, with its bays and rails and how many ends were read since, a rail. Both are lines, so as an Option it would be no plainer.
 #[derive(Clone, Copy)]
 pub enum Due {
     Head,

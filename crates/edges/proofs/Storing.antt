@@ -23,7 +23,7 @@ use Rattle.edges.specs.Held.{Steps, Finishes, read_of, due_read, answer_of, answ
 use Rattle.edge_lines.specs.declared.Due.{Due}
 use Rattle.edge_lines.specs.declared.Due.TheVariants.{Head, Rails}
 use Rattle.edge_lines.specs.declared.Reading.{Reading}
-use Rattle.edges.specs.declared.SurveyRead.{SurveyRead}
+use Rattle.edges.specs.SurveyRead.{SurveyRead}
 
 -- ## One rail
 module _ (s r : Reading) (l : List ℕ) where

@@ -1,7 +1,7 @@
 -- What each function makes of the state: a byte on, the end of the file, and the ends stored.
 -- Assumes nothing.
 use mathlib.Core.List.{List, ◌++◌, map, foldl}
-use Rattle.std.specs.Prelude.{◌≡◌, ℕ, ◌+◌, ◌*◌, ◌≤◌, ◌<◌, eqb, ltb, length, set, if◌then◌else◌}
+use Rattle.std.specs.Prelude.{◌≡◌, ℕ, ◌+◌, ◌*◌, ◌≤◌, ◌<◌, eqb, ltb, length, set, if◌then◌else◌, Err, Ok}
 use Rattle.std.proofs.lemmas.List.Edits.{sets}
 use Rattle.paper.specs.Yard.{Bay}
 use Rattle.paper.specs.Text.{Text, Read, good, bad_line}
@@ -13,8 +13,7 @@ use Rattle.edge_lines.specs.declared.Due.{Due}
 use Rattle.edge_lines.specs.declared.Due.TheVariants.{Head, Rails}
 use Rattle.edge_lines.specs.declared.Reading.{Reading}
 use Rattle.edge_lines.specs.Lines.{count_of, state_of, ends_after, last_line}
-use Rattle.edges.specs.declared.SurveyRead.{SurveyRead}
-use Rattle.edges.specs.declared.SurveyRead.TheVariants.{Yard, Bad}
+use Rattle.edges.specs.SurveyRead.{SurveyRead}
 
 -- ## One byte
 
@@ -42,8 +41,8 @@ pub record Finishes (s r : Reading) : Type 0 where
 
 -- the answer with the number of ends for the ends
 abbrev pub answer_of : SurveyRead → Read (ℕ × ℕ)
-answer_of (Yard n k) = good (n, k)
-answer_of (Bad l) = bad_line l
+answer_of (Ok (n, k)) = good (n, k)
+answer_of (Err l) = bad_line l
 
 abbrev pub due_answer : ℕ → Due → Read (ℕ × ℕ)
 due_answer line Head = bad_line line

@@ -12,13 +12,6 @@ ghost use Rattle.edges.specs.Held.{Steps, Finishes, answer_of, answer_by, stored
 
 use edge_lines::{Due, Part, Reading};
 
-// Bays and rail ends of the file, or its first bad line.
-#[derive(Clone, Copy)]
-pub enum SurveyRead {
-    Yard(u32, u64),
-    Bad(u64),
-}
-
 // The number with one more digit, up to five.
 fn tallied(n: u32, b: u8) -> u32
     ensures { result ≡ tally n b }
@@ -38,10 +31,7 @@ fn tallied(n: u32, b: u8) -> u32
 fn is_digit(b: u8) -> bool
     ensures { result ≡ is_digit b }
 {
-    if 48 <= b {
-        return b <= 57;
-    }
-    false
+    b.is_ascii_digit()
 }
 
 // A byte of the word, of which so many are past. Behind the word stands the first number.
@@ -181,20 +171,20 @@ fn finished(s: Reading) -> Reading
 }
 
 // What was read, once the file has ended.
-fn answer(s: Reading) -> SurveyRead
+fn answer(s: Reading) -> Result<(u32, u64), u64>
     ensures { answer_of result ≡ answer_by s }
 {
     if s.failed {
-        return SurveyRead::Bad(s.line);
+        return Err(s.line);
     }
     let due = s.due;
     match due {
-        Due::Head => SurveyRead::Bad(s.line),
+        Due::Head => Err(s.line),
         Due::Rails(bays, rails, ends) => {
             if ends == 2 * (rails as u64) {
-                return SurveyRead::Yard(bays, ends);
+                return Ok((bays, ends));
             }
-            SurveyRead::Bad(s.line)
+            Err(s.line)
         }
     }
 }
@@ -213,7 +203,7 @@ fn count(due: Due) -> u64
 fn narrow(x: u32) -> u16
     ensures { result ≡ narrowed x }
 {
-    if x < 65535 { x as u16 } else { 65535 }
+    x.min(65535) as u16
 }
 
 // The rail that was read last, where there is one more than before.
@@ -224,8 +214,8 @@ fn keep(s: Reading, r: Reading, ends: &mut [u16])
     let after = r.due;
     let at = count(before);
     if at < count(after) {
-        stores::short(ends, at as usize, narrow(r.from));
-        stores::short(ends, (at as usize) + 1, narrow(r.to));
+        stores::store(ends, at as usize, narrow(r.from));
+        stores::store(ends, (at as usize) + 1, narrow(r.to));
     }
 }
 
@@ -234,18 +224,16 @@ pub fn feed(s: Reading, piece: &[u8], ends: &mut [u16]) -> Reading
     ensures { Feeds s piece.now result ends.old ends.new }
 {
     let mut now = s;
-    let mut i = 0;
-    while i < piece.len() {
-        let next = step(now, piece[i]);
+    for b in piece {
+        let next = step(now, *b);
         keep(now, next, ends);
         now = next;
-        i += 1;
     }
     now
 }
 
 // The file ends. Bays and ends, or the first bad line.
-pub fn finish(s: Reading, ends: &mut [u16]) -> SurveyRead
+pub fn finish(s: Reading, ends: &mut [u16]) -> Result<(u32, u64), u64>
     ensures { Ends s result ends.old ends.new }
 {
     let last = finished(s);
@@ -254,7 +242,7 @@ pub fn finish(s: Reading, ends: &mut [u16]) -> SurveyRead
 }
 
 // The whole file.
-pub fn read(file: &[u8], ends: &mut [u16]) -> SurveyRead
+pub fn read(file: &[u8], ends: &mut [u16]) -> Result<(u32, u64), u64>
     ensures { Reads file.now result ends.old ends.new }
 {
     let s = feed(start(), file, ends);

@@ -1,5 +1,6 @@
 -- What slots by an edition say, way out by way out: 20 first, then the check's refusal; once it has passed the plan's numbers fit the tables,
 -- and the rest is what the passes give.
+use Rattle.std.proofs.Common.{Err, Ok}
 use mathlib.Core.Path.{◌≡◌, refl, sym}
 use mathlib.Core.Bool.{true, false}
 use mathlib.Core.List.{List, ◌++◌}
@@ -22,7 +23,6 @@ use Rattle.laws.proofs.Handing.{check-fits}
 use Rattle.docket.specs.Reading.{refusal_of}
 use Rattle.docket.specs.declared.Refusal.{Refusal}
 use Rattle.docket.specs.declared.Refusal.TheVariants.{Room, Edition}
-use Rattle.docket.specs.declared.Verdict.TheVariants.{Granted, Denied}
 use Rattle.trains.specs.Slots.{train_slots}
 use Rattle.editions.specs.Editions.{is_known, slots_by, slots_of_refusal, slots_of_end}
 use Rattle.editions.specs.Statement.{SlotsOfSay}
@@ -44,12 +44,12 @@ unfolding slots_by
 by_one e xs h = rw h
 
 module _ (o : Order) (plan : List ℕ) (e : ℕ) where
-  pub says-unknown : is_known e ≡ false → (out : List ℕ) → SlotsOfSay o plan e out (Denied Edition) out
+  pub says-unknown : is_known e ≡ false → (out : List ℕ) → SlotsOfSay o plan e out (Err Edition) out
   unfolding slots_of_refusal slots_of_end
   says-unknown k out = record { answers = rw k; leaves = rw k }
 
   module _ (k : is_known e ≡ true) where
-    pub says-refused : (out : List ℕ) (r : Refusal) → some (refusal_of r) ≡ check o plan → SlotsOfSay o plan e out (Denied r) out
+    pub says-refused : (out : List ℕ) (r : Refusal) → some (refusal_of r) ≡ check o plan → SlotsOfSay o plan e out (Err r) out
     unfolding slots_of_refusal slots_of_end slots_refusal
     says-refused out r h = record { answers = rw (k, ← h); leaves = rw (k, ← h) }
 
@@ -60,14 +60,14 @@ module _ (o : Order) (plan : List ℕ) (e : ℕ) where
       pub short : length plan ≤ most_crossings
       short = (clean_of o (length plan) (check-passed o plan (sym passes)).sound).sizes.short-plan
 
-      pub says-room : (out : List ℕ) → length out < length plan → SlotsOfSay o plan e out (Denied (Room (length plan))) out
+      pub says-room : (out : List ℕ) → length out < length plan → SlotsOfSay o plan e out (Err (Room (length plan))) out
       unfolding slots_of_refusal slots_of_end slots_refusal
       says-room out h =
           let over : (ltb (length out) (length plan) or ltb most_crossings (length plan)) ≡ true = or_left _ _ (lt-ltb (length out) (length plan) h) in
           record { answers = rw (k, ← passes, over); leaves = rw (k, ← passes, over) }
 
       pub says-written : (out out' : List ℕ) → length plan ≤ length out → out' ≡ slots_by e (crossings plan) ++ drop (length plan) out
-          → SlotsOfSay o plan e out (Granted (length plan)) out'
+          → SlotsOfSay o plan e out (Ok (length plan)) out'
       unfolding slots_of_refusal slots_of_end slots_refusal
       says-written out out' h w =
           let room : (ltb (length out) (length plan) or ltb most_crossings (length plan)) ≡ false =

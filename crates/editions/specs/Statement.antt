@@ -3,7 +3,7 @@
 use Rattle.std.specs.Prelude.{◌≡◌, List, ℕ, length}
 use Rattle.paper.specs.Order.{Order}
 use Rattle.docket.specs.Reading.{verdict_of}
-use Rattle.docket.specs.declared.Verdict.{Verdict}
+use Rattle.docket.specs.Verdict.{Verdict}
 use Rattle.editions.specs.Editions.{slots_of, slots_of_end}
 
 pub record SlotsOfSay (o : Order) (plan : List ℕ) (e : ℕ) (out : List ℕ) (answer : Verdict) (out' : List ℕ) : Type 0 where

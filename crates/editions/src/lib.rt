@@ -10,8 +10,7 @@ ghost use Rattle.paper.specs.OnePass.{Fits};
 ghost use Rattle.editions.specs.Editions.{is_known, slots_by};
 ghost use Rattle.editions.specs.Statement.{SlotsOfSay};
 
-use checker::Checked;
-use docket::{Refusal, Verdict};
+use docket::Refusal;
 
 // The editions there are.
 pub fn known(edition: u64) -> bool
@@ -44,21 +43,18 @@ pub fn slots_of(
     goal: &[u16],
     plan: &[u64],
     out: &mut [u32],
-) -> Verdict
+) -> Result<u64, Refusal>
     ensures { SlotsOfSay (order bays rails.now start.now goal.now)
         plan.now edition out.old result out.new }
 {
     let fits = known(edition);
     if !fits {
-        return Verdict::Denied(Refusal::Edition);
+        return Err(Refusal::Edition);
     }
-    let checked = checker::check(bays, rails, start, goal, plan);
-    if let Checked::Refused(r) = checked {
-        return Verdict::Denied(r);
-    }
+    checker::check(bays, rails, start, goal, plan)?;
     if out.len() < plan.len() {
-        return Verdict::Denied(Refusal::Room(plan.len() as u64));
+        return Err(Refusal::Room(plan.len() as u64));
     }
     pass(edition, plan, out);
-    Verdict::Granted(plan.len() as u64)
+    Ok(plan.len() as u64)
 }

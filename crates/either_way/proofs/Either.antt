@@ -1,6 +1,8 @@
 -- An attempt on copies is the paper's. Those before the first that succeeds all fail, since each starts from the same placement.
 -- Assumes nothing.
-use mathlib.Core.Path.{◌≡◌, ◌∙◌}
+use Rattle.std.proofs.lemmas.Option.{same_Some}
+use Rattle.std.proofs.Common.{None, Some}
+use mathlib.Core.Path.{◌≡◌, ◌∙◌, ap}
 use mathlib.Core.Bool.{Bool, true, false}
 use mathlib.Core.List.{List}
 use mathlib.Core.Option.{Option, none, some}
@@ -15,12 +17,10 @@ use Rattle.words.specs.Sets.{mem, span, Lowest}
 use Rattle.docket.specs.declared.Bay.{Bay as Numbered}
 use Rattle.acting.specs.Acting.{nothing, Within, Tries}
 use Rattle.acting.specs.declared.Tally.{Tally}
-use Rattle.acting.specs.declared.Tried.{Tried}
-use Rattle.acting.specs.declared.Tried.TheVariants.{Done, Failed}
+use Rattle.acting.specs.Tried.{Tried}
 use Rattle.acting.proofs.Acting.{tried-done, tried-failed}
 use Rattle.keeping.specs.Keeping.{from}
-use Rattle.keeping.specs.declared.Kept.{Kept}
-use Rattle.keeping.specs.declared.Kept.TheVariants.{One, Nothing}
+use Rattle.keeping.specs.Kept.{Kept}
 use Rattle.attempts.specs.Asking.{KeptAsks}
 use Rattle.attempts.specs.Attempting.{way_of, Logged, Attempts}
 use Rattle.attempts.specs.declared.OneKept.{OneKept}
@@ -33,8 +33,8 @@ pub kept-copy : {one : OneKept} {placement standing : List ℕ} (p w : List ℕ)
 kept-copy p w e d k = rw (e, d) k
 
 pub within_more : (r : Tried) (at : Tally) (k d : ℕ) → k ≤ d → Within at k r → Within at d r
-within_more Failed at k d h w = tt
-within_more (Done m) at k d h w = omega arith
+within_more None at k d h w = tt
+within_more (Some m) at k d h w = omega arith
 
 pub attempted : {o : Option Made} {n : ℕ} {p log₀ p' standing' empty' log : List ℕ} {r : Tried} → Tries o n p log₀ nothing p' standing' empty' log r → Attempts o log r
 attempted t = record { fails = λ z. tried-failed (rw z at t); done = λ m z. let d = tried-done (rw z at t) in (d.0, d.1, tallied-logged d.2) }
@@ -87,17 +87,18 @@ failing-more way others x x' p s e l = record {
 }
 
 pub kept-none : (Y : Yard) {way : Bay → Action} (e : Bay) {others : List ℕ} (n : ℕ) {x : ℕ} {p : Placement} (log : List ℕ) → n ≤ x → Failing way others x p
-    → FirstKept (first_kept Y way e (from (mem others) 0 n) p) e log Nothing
+    → FirstKept (first_kept Y way e (from (mem others) 0 n) p) e log None
 unfolding first_kept
 kept-none Y e {others} n log h s = record { one = λ x m z. never (cc); nothing = λ z. first-none _ (mem others) n (λ y l m. rw (s.fails y (omega arith) m)) }
 
 pub kept-one : (Y : Yard) {way : Bay → Action} (e : Bay) {others : List ℕ} (n : ℕ) {p : Placement} {log : List ℕ} {k : Tally} (x : Numbered) → x.0 < n → mem others x.0 ≡ true → Failing way others x.0 p
-    → (made : Made) × (way x.0 p ≡ some made) × Logged made log k → FirstKept (first_kept Y way e (from (mem others) 0 n) p) e log (One x k)
+    → (made : Made) × (way x.0 p ≡ some made) × Logged made log k → FirstKept (first_kept Y way e (from (mem others) 0 n) p) e log (Some (x, k))
 unfolding first_kept
 kept-one Y e {others} n {k = k} x h m s d = record {
   one = λ y i z.
-      let a : x ≡ y = cc in
-      let b : k ≡ i = cc in
+      let q = same_Some _ _ z in
+      let a : x ≡ y = ap (λ t. t.0) q in
+      let b : k ≡ i = ap (λ t. t.1) q in
       rw (← a, ← b) (d.0, first_some _ (mem others) n x.0 _ h m (λ y l w. rw (s.fails y l w)) (rw d.1), d.2);
   nothing = λ z. never (cc);
 }
@@ -105,7 +106,7 @@ kept-one Y e {others} n {k = k} x h m s d = record {
 -- ## Either way
 
 pub first_way : (Y : Yard) (L M : Carrier) (v b e : Bay) (p : Placement) (n : ℕ) (others : List ℕ) {log : List ℕ} {x : Numbered} {k : Tally} → Others Y v b e n others
-    → FirstKept (first_kept Y (way_of false Y L M v b e) e (from (mem others) 0 n) p) e log (One x k) → FirstKept (go_on Y L M v b e p) e log (One x k)
+    → FirstKept (first_kept Y (way_of false Y L M v b e) e (from (mem others) 0 n) p) e log (Some (x, k)) → FirstKept (go_on Y L M v b e p) e log (Some (x, k))
 unfolding go_on
 first_way Y L M v b e p n others o d = record {
   one = λ y i z. let w = d.one y i z in (w.0, rw (o, w.1), w.2);

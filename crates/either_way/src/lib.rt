@@ -6,26 +6,32 @@ ghost use Rattle.acting.specs.Acting.{Ready};
 ghost use Rattle.attempts.specs.Asking.{AttemptAsks};
 ghost use Rattle.either_way.specs.Either.{AttemptSays, OthersAsk, FirstKeptSays, EitherSays};
 
-use acting::{Tally, Tried};
+use acting::Tally;
 use aside::Aside;
 use attempts::OneKept;
 use docket::Bay;
-use keeping::Kept;
 
-// An attempt with x, the second way or the first, on copies.
+// The two ways to empty another neighbour.
+#[derive(Clone, Copy)]
+enum Way {
+    First,
+    Second,
+}
+
+// An attempt with x, this way, on copies.
 fn attempt(
     table: &[u64],
-    second: bool,
+    way: Way,
     one: OneKept,
     x: Bay,
     placement: &[u16],
     standing: &[u16],
     empty: &[u64],
     log: &mut [u64],
-) -> Tried
+) -> Option<Tally>
     requires ready { Ready table.now placement.now standing.now empty.now }
     requires attempt_asks { AttemptAsks one x.0 placement.now standing.now }
-    ensures { AttemptSays second one x.0
+    ensures { AttemptSays way one x.0
         table.now placement.now standing.now log.new result }
 {
     let mut bays = [0u16; words::SPAN];
@@ -38,50 +44,45 @@ fn attempt(
     let n = standing.len();
     let used = &mut bays[..k];
     let stood = &mut carriers[..n];
-    if second {
-        return attempts::go_round(table, one, x, used, stood, &mut unused, log);
+    match way {
+        Way::First => {
+            let aside = Aside {
+                junction: one.lead.junction,
+                held: one.behind,
+                emptied: one.kept,
+            };
+            aside::vacate_both(table, aside, x, used, stood, &mut unused, log)
+        }
+        Way::Second => attempts::go_round(table, one, x, used, stood, &mut unused, log),
     }
-    let junction = one.lead.junction;
-    let held = one.behind;
-    let emptied = one.kept;
-    let first = Aside {
-        junction,
-        held,
-        emptied,
-    };
-    aside::vacate_both(table, first, x, used, stood, &mut unused, log)
 }
 
 // The first of the others whose attempt succeeds; the log is left as that attempt leaves it.
 fn first_kept(
     table: &[u64],
-    second: bool,
+    way: Way,
     others: &[u64],
     one: OneKept,
     placement: &[u16],
     standing: &[u16],
     empty: &[u64],
     log: &mut [u64],
-) -> Kept
+) -> Option<(Bay, Tally)>
     requires ready { Ready table.now placement.now standing.now empty.now }
     requires others_ask { OthersAsk others.now one placement.now standing.now }
-    ensures { FirstKeptSays second others.now one
+    ensures { FirstKeptSays way others.now one
         table.now placement.now standing.now log.new result }
 {
     let mut x = words::next_from(others, 0);
     while x < words::SPAN {
         let bay = Bay(x as u16);
-        let tried = attempt(table, second, one, bay, placement, standing, empty, log);
-        if let Tried::Done(done) = tried {
-            let c = Tally {
-                crossings: done.crossings,
-                parked: done.parked,
-            };
-            return Kept::One(bay, c);
+        let tried = attempt(table, way, one, bay, placement, standing, empty, log);
+        if let Some(done) = tried {
+            return Some((bay, done));
         }
         x = words::next_from(others, x + 1);
     }
-    Kept::Nothing
+    None
 }
 
 // The first way for each of the others; if that never works, the second for each.
@@ -93,15 +94,33 @@ pub fn either_way(
     standing: &[u16],
     empty: &[u64],
     log: &mut [u64],
-) -> Kept
+) -> Option<(Bay, Tally)>
     requires ready { Ready table.now placement.now standing.now empty.now }
     requires others_ask { OthersAsk others.now one placement.now standing.now }
     ensures { EitherSays others.now one
         table.now placement.now standing.now log.new result }
 {
-    let first = first_kept(table, false, others, one, placement, standing, empty, log);
-    if let Kept::One(x, c) = first {
-        return Kept::One(x, c);
+    let first = first_kept(
+        table,
+        Way::First,
+        others,
+        one,
+        placement,
+        standing,
+        empty,
+        log,
+    );
+    if let Some((x, c)) = first {
+        return Some((x, c));
     }
-    first_kept(table, true, others, one, placement, standing, empty, log)
+    first_kept(
+        table,
+        Way::Second,
+        others,
+        one,
+        placement,
+        standing,
+        empty,
+        log,
+    )
 }

@@ -5,7 +5,7 @@ ghost use Rattle.std.specs.Prelude.{◌≡◌, ◌<◌, get_or};
 ghost use Rattle.paper.specs.Limits.{most_bays};
 ghost use Rattle.docket.specs.Reading.{crossing_of};
 ghost use Rattle.bills.specs.Billing.{no_line, posted as posted_of, charged as charged_of};
-ghost use Rattle.bills.specs.Answering.{same_numbers, same_record};
+ghost use Rattle.bills.specs.Answering.{same_record};
 
 use bills::{Line, Record};
 use docket::Crossing;
@@ -29,33 +29,11 @@ pub fn line_in(lines: [Line; Yard::BAYS], i: usize) -> Line
     if i < Yard::BAYS { lines[i] } else { no_line() }
 }
 
-// Whether two placements are the same.
-fn same_places(a: [u16; Yard::BAYS], b: [u16; Yard::BAYS]) -> bool
-    ensures { result ≡ same_numbers a b }
-{
-    let mut c = 0;
-    while c < Yard::BAYS {
-        if a[c] != b[c] {
-            return false;
-        }
-        c += 1;
-    }
-    true
-}
-
 // Whether two records are the same.
 pub fn same_record(a: Record, b: Record) -> bool
     ensures { result ≡ same_record a b }
 {
-    let here = a.at;
-    let there = b.at;
-    if !same_places(here, there) {
-        return false;
-    }
-    if a.done != b.done {
-        return false;
-    }
-    a.highest == b.highest
+    a == b
 }
 
 // The record after an accepted crossing.
@@ -67,9 +45,9 @@ pub fn posted(running: Record, x: Crossing, slot: u32) -> Record
     let mut at = running.at;
     at[carrier] = x.to.0;
     Record {
-        at: at,
+        at,
         done: running.done + 1,
-        highest: slots::higher(running.highest, slot),
+        highest: running.highest.max(slot),
     }
 }
 

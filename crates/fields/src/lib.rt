@@ -37,28 +37,16 @@ pub struct FieldsPast {
     pub gy: u32,
 }
 
-pub fn both(a: bool, b: bool) -> bool
-    ensures { result ≡ a and b }
-{
-    if a { b } else { false }
-}
-
-fn either(a: bool, b: bool) -> bool
-    ensures { result ≡ a or b }
-{
-    if a { true } else { b }
-}
-
 fn is_digit(b: u8) -> bool
     ensures { result ≡ is_digit b }
 {
-    both(48 <= b, b <= 57)
+    b.is_ascii_digit()
 }
 
 fn is_point(b: u8) -> bool
     ensures { result ≡ is_point b }
 {
-    b == 46
+    b == b'.'
 }
 
 // One more, up to 129.
@@ -72,12 +60,11 @@ fn grown(p: u8) -> u8
 fn tallied(n: u32, b: u8) -> u32
     ensures { result ≡ tally n b }
 {
-    if both(is_digit(b), n < 10000) {
-        if 48 <= b {
-            return n * 10 + ((b - 48) as u32);
-        }
+    if b.is_ascii_digit() && n < 10000 {
+        n * 10 + u32::from(b - b'0')
+    } else {
+        n
     }
-    n
 }
 
 // A byte of a field.
@@ -89,10 +76,10 @@ pub fn seen(m: FieldSeen, b: u8) -> FieldSeen
     FieldSeen {
         place: grown(m.place),
         number: tallied(m.number, b),
-        digits: both(m.digits, d),
-        point: either(m.point, p),
-        plain: both(m.plain, either(d, both(p, !m.point))),
-        figure: either(m.figure, d),
+        digits: m.digits && d,
+        point: m.point || p,
+        plain: m.plain && (d || p && !m.point),
+        figure: m.figure || d,
     }
 }
 
@@ -106,12 +93,12 @@ pub fn text_seen(t: TextSeen, b: u8) -> TextSeen
     if at < 11 {
         return TextSeen {
             place: place + 1,
-            agrees: both(t.agrees, b == word[at]),
+            agrees: t.agrees && b == word[at],
         };
     }
     TextSeen {
         place: past_word(place),
-        agrees: both(t.agrees, b == 0),
+        agrees: t.agrees && b == 0,
     }
 }
 
@@ -126,21 +113,21 @@ fn past_word(p: u8) -> u8
 fn sized_field(m: FieldSeen, most: u8) -> bool
     ensures { result ≡ sized_field most (seen_of m) }
 {
-    both(1 <= m.place, m.place <= most)
+    1 <= m.place && m.place <= most
 }
 
 // One to five digits.
 fn number_field(m: FieldSeen) -> bool
     ensures { result ≡ number_field (seen_of m) }
 {
-    both(sized_field(m, 5), m.digits)
+    sized_field(m, 5) && m.digits
 }
 
 // The last field.
 fn length_field(m: FieldSeen) -> bool
     ensures { result ≡ length_field (seen_of m) }
 {
-    both(sized_field(m, 20), both(m.plain, m.figure))
+    sized_field(m, 20) && m.plain && m.figure
 }
 
 // Whether the field at an index is well.
@@ -154,10 +141,10 @@ fn well_field(i: u8, m: FieldSeen, w: u32, h: u32) -> bool
         return length_field(m);
     }
     if i == 2 {
-        return both(number_field(m), m.number == w);
+        return number_field(m) && m.number == w;
     }
     if i == 3 {
-        return both(number_field(m), m.number == h);
+        return number_field(m) && m.number == h;
     }
     if i < 8 {
         return number_field(m);
@@ -185,7 +172,7 @@ pub fn field_past(p: FieldsPast, m: FieldSeen, w: u32, h: u32) -> FieldsPast
 {
     FieldsPast {
         index: one_on(p.index),
-        well: both(p.well, well_field(p.index, m, w, h)),
+        well: p.well && well_field(p.index, m, w, h),
         sx: kept(p.index, 4, m.number, p.sx),
         sy: kept(p.index, 5, m.number, p.sy),
         gx: kept(p.index, 6, m.number, p.gx),
@@ -197,5 +184,5 @@ pub fn field_past(p: FieldsPast, m: FieldSeen, w: u32, h: u32) -> FieldsPast
 pub fn is_version(t: TextSeen) -> bool
     ensures { result ≡ matched 9 (match_of t) or matched 11 (match_of t) }
 {
-    either(both(t.agrees, t.place == 9), both(t.agrees, t.place == 11))
+    t.agrees && (t.place == 9 || t.place == 11)
 }

@@ -1,4 +1,5 @@
 -- What the parts read is the order: the cells that the map's reading leaves give the map's own rails and bays.
+use Rattle.std.proofs.Common.{Err, Ok}
 use mathlib.Core.Path.{◌≡◌, refl, ◌∙◌, ap}
 use mathlib.Core.Bool.{Bool, true, false}
 use mathlib.Core.List.{List}
@@ -19,16 +20,13 @@ use Rattle.docket.specs.declared.Refusal.{Refusal}
 use Rattle.docket.specs.declared.Refusal.TheVariants as docket
 use Rattle.docket.specs.Reading.{refusal_of}
 use Rattle.gridmap.specs.declared.Grid.{Grid as Held}
-use Rattle.gridmap.specs.declared.MapRead.{MapRead}
-use Rattle.gridmap.specs.declared.MapRead.TheVariants as map_read
+use Rattle.gridmap.specs.MapRead.{MapRead}
 use Rattle.gridmap.specs.Cells.{numbering, rails_in, bay_found, shape_of, Reads as MapReads}
 use Rattle.gridmap.proofs.Good.{Sized, map-sized}
 use Rattle.gridmap.proofs.OfMap.{rails-of-map}
-use Rattle.scenario.specs.declared.ScenarioRead.{ScenarioRead}
-use Rattle.scenario.specs.declared.ScenarioRead.TheVariants as scenario-read
+use Rattle.scenario.specs.ScenarioRead.{ScenarioRead}
 use Rattle.scenario.specs.Under.{count_read, Reads as ScenarioReads}
 use Rattle.scenario.proofs.OfMap.{reads-of-map}
-use Rattle.filing.specs.declared.Ordered.TheVariants as the
 use Rattle.filing.specs.Filing.{file_of, MapFiled, scenario_in, ScenarioFiled, order, refusal, carriers_filed, map_filed, filed, answered, counts, Files}
 
 -- ## One file
@@ -36,7 +34,7 @@ pub map-there : {q : Bool} {file before after : List ℕ} {r : MapRead} → q �
 unfolding read_file
 map-there e h = rw e (record { answer = h.answer; numbers = h.numbers })
 
-pub map-missing : {q : Bool} (file before : List ℕ) → q ≡ false → MapFiled (file_of q file) before (map_read.Bad 0) before
+pub map-missing : {q : Bool} (file before : List ℕ) → q ≡ false → MapFiled (file_of q file) before (Err 0) before
 unfolding read_file
 map-missing file before e = rw e (record { answer = refl; numbers = refl })
 
@@ -46,7 +44,7 @@ unfolding read_file
 scenario-there e h = rw e (record { answer = h.answer; starts_left = h.starts_left; goals_left = h.goals_left })
 
 pub scenario-missing : {q : Bool} (file table starts goals : List ℕ) (G : Held) → q ≡ false
-    → ScenarioFiled (file_of q file) G table (scenario-read.Bad 0) starts starts goals goals
+    → ScenarioFiled (file_of q file) G table (Err 0) starts starts goals goals
 unfolding read_file
 scenario-missing file table starts goals G e = rw e (record { answer = refl; starts_left = refl; goals_left = refl })
 
@@ -81,7 +79,7 @@ record Mapped (file : Option Text) (before : List ℕ) (g : Held) (table : List 
   numbers : table ≡ sets before 0 (numbering 0 (cells grid))
   room : length (cells grid) ≤ length before
 
-mapped : (file : Option Text) (before : List ℕ) (g : Held) (table : List ℕ) → 4096 ≤ length before → MapFiled file before (map_read.Grid g) table → Mapped file before g table
+mapped : (file : Option Text) (before : List ℕ) (g : Held) (table : List ℕ) → 4096 ≤ length before → MapFiled file before (Ok g) table → Mapped file before g table
 mapped file before g table fits m =
     by_read (read_file read_map file)
     (λ G q.
@@ -123,11 +121,11 @@ module _ {map_file : Option Text} {before : List ℕ} {g : Held} {table : List �
   filed-by file = rw (m.reads, scenario-by file)
 
 -- ## Both files
-no-order : {map_file scenario_file : Option Text} (f : Refusal) (ends starts goals : List ℕ) → filed map_file scenario_file ≡ refusal (refusal_of f) → Files map_file scenario_file (the.Refused f) ends ends starts starts goals goals
+no-order : {map_file scenario_file : Option Text} (f : Refusal) (ends starts goals : List ℕ) → filed map_file scenario_file ≡ refusal (refusal_of f) → Files map_file scenario_file (Err f) ends ends starts starts goals goals
 no-order f ends starts goals e = record { answer = rw e refl; ends_left = rw e refl; starts_left = rw e refl; goals_left = rw e refl }
 
 module _ {map_file scenario_file : Option Text} {before table : List ℕ} {r : MapRead} (m : MapFiled map_file before r table) where
-  pub map-refused : (l : ℕ) (ends starts goals : List ℕ) → r ≡ map_read.Bad l → Files map_file scenario_file (the.Refused (docket.BadMap l)) ends ends starts starts goals goals
+  pub map-refused : (l : ℕ) (ends starts goals : List ℕ) → r ≡ Err l → Files map_file scenario_file (Err (docket.BadMap l)) ends ends starts starts goals goals
   unfolding filed
   map-refused l ends starts goals e =
       by_read (read_file read_map map_file)
@@ -137,8 +135,8 @@ module _ {map_file scenario_file : Option Text} {before table : List ℕ} {r : M
       let z : n ≡ l = cc in
       no-order (docket.BadMap l) ends starts goals (rw (q, z) refl))
 
-  module _ (g : Held) (e : r ≡ map_read.Grid g) (fits : 4096 ≤ length before) {x : ScenarioRead} {starts₀ starts goals₀ goals : List ℕ} (s : ScenarioFiled scenario_file g table x starts₀ starts goals₀ goals) where
-    pub scenario-refused : (l : ℕ) (ends : List ℕ) → x ≡ scenario-read.Bad l → Files map_file scenario_file (the.Refused (docket.BadScenario l)) ends ends starts₀ starts goals₀ goals
+  module _ (g : Held) (e : r ≡ Ok g) (fits : 4096 ≤ length before) {x : ScenarioRead} {starts₀ starts goals₀ goals : List ℕ} (s : ScenarioFiled scenario_file g table x starts₀ starts goals₀ goals) where
+    pub scenario-refused : (l : ℕ) (ends : List ℕ) → x ≡ Err l → Files map_file scenario_file (Err (docket.BadScenario l)) ends ends starts₀ starts goals₀ goals
     scenario-refused l ends f =
         let held = mapped map_file before g table fits (rw e at m) in
         by_read (scenario_in g table scenario_file)
@@ -150,8 +148,8 @@ module _ {map_file scenario_file : Option Text} {before table : List ℕ} {r : M
         let b : goals ≡ goals₀ = rw q at s.goals_left in
         rw (a, b) (no-order (docket.BadScenario l) ends starts₀ goals₀ (filed-by held scenario_file ∙ rw (q, z) refl)))
 
-    pub order-filed : (k n : ℕ) {ends₀ ends : List ℕ} → x ≡ scenario-read.Carriers k → Wrote ends₀ 0 (rails_in table g.height g.width) ends n
-        → Files map_file scenario_file (the.Order (record { bays = g.bays; ends = n; carriers = k })) ends₀ ends starts₀ starts goals₀ goals
+    pub order-filed : (k n : ℕ) {ends₀ ends : List ℕ} → x ≡ Ok k → Wrote ends₀ 0 (rails_in table g.height g.width) ends n
+        → Files map_file scenario_file (Ok (record { bays = g.bays; ends = n; carriers = k })) ends₀ ends starts₀ starts goals₀ goals
     order-filed k n {ends₀} {ends} f w =
         let held = mapped map_file before g table fits (rw e at m) in
         by_read (scenario_in g table scenario_file)

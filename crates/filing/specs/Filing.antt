@@ -1,6 +1,6 @@
 -- The two files as an order, what each file gives first, and what an order leaves in the lent lists.
 -- Assumes nothing.
-use Rattle.std.specs.Prelude.{Bool, true, false, List, ◌≡◌, ℕ, length, take}
+use Rattle.std.specs.Prelude.{Bool, true, false, List, ◌≡◌, ℕ, length, take, Err, Ok}
 use Rattle.std.proofs.Math.Option.{Option, none, some}
 use Rattle.std.proofs.lemmas.List.Edits.{sets}
 use Rattle.paper.specs.Yard.{Bay}
@@ -13,13 +13,12 @@ use Rattle.paper.specs.Scenario.{read_scenario}
 use Rattle.paper.specs.Program.{read_file, program_room}
 use Rattle.docket.specs.Reading.{refusal_of}
 use Rattle.gridmap.specs.declared.Grid.{Grid as Held}
-use Rattle.gridmap.specs.declared.MapRead.{MapRead}
+use Rattle.gridmap.specs.MapRead.{MapRead}
 use Rattle.gridmap.specs.Cells.{map_of, shape_of, cells_after}
-use Rattle.scenario.specs.declared.ScenarioRead.{ScenarioRead}
+use Rattle.scenario.specs.ScenarioRead.{ScenarioRead}
 use Rattle.scenario.specs.Under.{bay_by, answer_of, count_read, starts_after, goals_after, starts_of, goals_of}
 use Rattle.filing.specs.declared.Order.{Order as Counts}
-use Rattle.filing.specs.declared.Ordered.{Ordered}
-use Rattle.filing.specs.declared.Ordered.TheVariants as the
+use Rattle.filing.specs.Ordered.{Ordered}
 
 -- a file's bytes, if it can be read
 abbrev pub file_of : Bool → Text → Option Text
@@ -74,8 +73,8 @@ pub data OrderTold : Type 0 where
   refuses : Refusal → OrderTold
 
 abbrev pub told_of : Ordered → OrderTold
-told_of (the.Order o) = counts o.bays o.ends o.carriers
-told_of (the.Refused r) = refuses (refusal_of r)
+told_of (Ok o) = counts o.bays o.ends o.carriers
+told_of (Err r) = refuses (refusal_of r)
 
 abbrev pub told_by : Filed → OrderTold
 told_by (order n ends cs) = counts n (length ends) (length cs)

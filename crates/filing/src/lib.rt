@@ -4,8 +4,7 @@
 ghost use Rattle.filing.specs.Filing.{file_of, MapFiled, ScenarioFiled, Files};
 
 use docket::Refusal;
-use gridmap::{Grid, MapRead};
-use scenario::ScenarioRead;
+use gridmap::Grid;
 
 // How many bays, ends of rails and carriers an order has.
 #[derive(Clone, Copy)]
@@ -15,21 +14,14 @@ pub struct Order {
     pub carriers: usize,
 }
 
-// An order, or why there is none.
-#[derive(Clone, Copy)]
-pub enum Ordered {
-    Order(Order),
-    Refused(Refusal),
-}
-
 // The map; one that can't be read is bad at line 0.
-fn read_map(map: &[u8], readable: bool, cells: &mut [u16]) -> MapRead
+fn read_map(map: &[u8], readable: bool, cells: &mut [u16]) -> Result<Grid, u64>
     ensures { MapFiled (file_of readable map.now) cells.old result cells.new }
 {
     if readable {
         return gridmap::read(map, cells);
     }
-    MapRead::Bad(0)
+    Err(0) // where there is no map
 }
 
 // The scenario, likewise.
@@ -40,14 +32,14 @@ fn read_scenario(
     cells: &[u16],
     starts: &mut [u16],
     goals: &mut [u16],
-) -> ScenarioRead
+) -> Result<u16, u64>
     ensures { ScenarioFiled (file_of readable scenario.now) grid cells.now result starts.old starts.new
         goals.old goals.new }
 {
     if readable {
         return scenario::read(scenario, grid, cells, starts, goals);
     }
-    ScenarioRead::Bad(0)
+    Err(0)
 }
 
 // 14, then 15, then the order, with its rails, starts and goals in the lent lists. A refusal changes none.
@@ -59,27 +51,27 @@ pub fn read_order(
     ends: &mut [u16],
     starts: &mut [u16],
     goals: &mut [u16],
-) -> Ordered
+) -> Result<Order, Refusal>
     ensures { Files (file_of mapped map.now) (file_of listed scenario.now) result ends.old ends.new
         starts.old starts.new goals.old goals.new }
 {
     let mut cells = [0u16; 4096];
     let found = read_map(map, mapped, &mut cells);
     match found {
-        MapRead::Grid(grid) => {
+        Ok(grid) => {
             let carriers_found = read_scenario(scenario, listed, grid, &cells, starts, goals);
             match carriers_found {
-                ScenarioRead::Carriers(carriers) => {
+                Ok(carriers) => {
                     let n = gridmap::rails(grid, &cells, ends);
-                    Ordered::Order(Order {
+                    Ok(Order {
                         bays: grid.bays as u64,
                         ends: n,
                         carriers: carriers as usize,
                     })
                 }
-                ScenarioRead::Bad(line) => Ordered::Refused(Refusal::BadScenario(line)),
+                Err(line) => Err(Refusal::BadScenario(line)),
             }
         }
-        MapRead::Bad(line) => Ordered::Refused(Refusal::BadMap(line)),
+        Err(line) => Err(Refusal::BadMap(line)),
     }
 }

@@ -1,4 +1,5 @@
 -- The search for the first bad one, place by place: the whole answer is the answer from here, as long as none was bad.
+use Rattle.std.proofs.Common.{None, Some}
 use mathlib.Core.Path.{◌≡◌, sym}
 use mathlib.Core.Bool.{Bool, true, false}
 use mathlib.Core.List.{List}
@@ -11,7 +12,6 @@ use lib.Seq.{take-suc, drop-cons}
 use Rattle.paper.specs.Basics.{first_bad}
 use Rattle.paper.proofs.Tests.{never}
 use Rattle.first_bad.specs.Finding.{Finds}
-use Rattle.first_bad.specs.declared.Found.TheVariants.{At, Nothing}
 
 module _ {A : Type 0} (bad : List A → A → Bool) (pad : A) (xs : List A) where
   -- the answer from place i on
@@ -32,8 +32,8 @@ module _ {A : Type 0} (bad : List A → A → Bool) (pad : A) (xs : List A) wher
 
 -- ---- what was found
 
-pub finds-at : (o : Option ℕ) (m i : ℕ) → o ≡ some i → i < m → Finds o m (At i)
+pub finds-at : (o : Option ℕ) (m i : ℕ) → o ≡ some i → i < m → Finds o m (Some i)
 finds-at o m i e h = record { which = sym e; below = λ j q. let z : i ≡ j = cc in omega arith }
 
-pub finds-none : (o : Option ℕ) (m : ℕ) → o ≡ none → Finds o m Nothing
+pub finds-none : (o : Option ℕ) (m : ℕ) → o ≡ none → Finds o m None
 finds-none o m e = record { which = sym e; below = λ j q. never (cc) }

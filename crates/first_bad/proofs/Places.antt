@@ -44,16 +44,16 @@ used-more place c used h k u = record {
 
 -- ---- the loop over the carriers
 
-module _ (n : ℕ) (place : Placement) (c b : ℕ) (used : List ℕ) (most : n ≤ span) (hb : b ≡ get_or place c 0) (u : Used place c used) where
-  pub outside-bad : n ≤ b → bad_place n (take c place) (get_or place c 0) ≡ true
+module _ (n : ℕ) (place : Placement) (c : ℕ) (used : List ℕ) (most : n ≤ span) (u : Used place c used) where
+  pub outside-bad : n ≤ get_or place c 0 → bad_place n (take c place) (get_or place c 0) ≡ true
   unfolding bad_place
-  outside-bad h = rw (← hb) (or_left _ _ (le-leb n b h))
+  outside-bad h = or_left _ _ (le-leb n _ h)
 
   -- a bay of the yard is bad exactly if it is marked
-  pub used-bad : b < n → get_or used b 0 ≡ 1 → bad_place n (take c place) (get_or place c 0) ≡ true
+  pub used-bad : get_or place c 0 < n → get_or used (get_or place c 0) 0 ≡ 1 → bad_place n (take c place) (get_or place c 0) ≡ true
   unfolding bad_place ◌or◌
-  used-bad h e = rw (← hb, lt-leb n b h) (sym (u.same b (omega arith)) ∙ eq-eqb _ _ e)
+  used-bad h e = rw (lt-leb n _ h) (sym (u.same _ (omega arith)) ∙ eq-eqb _ _ e)
 
-  pub unused-good : b < n → (get_or used b 0 ≡ 1 → ⊥) → bad_place n (take c place) (get_or place c 0) ≡ false
+  pub unused-good : get_or place c 0 < n → (get_or used (get_or place c 0) 0 ≡ 1 → ⊥) → bad_place n (take c place) (get_or place c 0) ≡ false
   unfolding bad_place ◌or◌
-  unused-good h e = rw (← hb, lt-leb n b h) (sym (u.same b (omega arith)) ∙ ne_eqb _ _ e)
+  unused-good h e = rw (lt-leb n _ h) (sym (u.same _ (omega arith)) ∙ ne_eqb _ _ e)

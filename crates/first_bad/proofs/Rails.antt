@@ -1,4 +1,5 @@
 -- Rails in the table: one more rail sets its two places, and they are what it joins; so a pair given before is found in its row.
+use Rattle.std.proofs.Common.{None, Some}
 use mathlib.Core.Path.{◌≡◌, refl, sym, ap, ◌∙◌}
 use mathlib.Core.Bool.{Bool, true, false}
 use mathlib.Core.List.{List, [], ◌∷◌, ◌++◌}
@@ -17,7 +18,6 @@ use Rattle.paper.proofs.Tests.{by_cases, not-both, and_left, and_right, or_left,
 use Rattle.words.specs.Sets.{mem, mem_row, span}
 use Rattle.first_bad.specs.Table.{Table}
 use Rattle.first_bad.specs.Finding.{Laid, Lays}
-use Rattle.first_bad.specs.declared.Found.TheVariants.{At, Nothing}
 
 -- ---- the rails of a list of ends, by their places
 
@@ -123,14 +123,18 @@ empty-beyond n rails table l a b h k =
 
 -- ---- the loop over the rails
 
-module _ (n : ℕ) (ends : List Bay) (i a b : ℕ) (table : List ℕ) (most : n ≤ span) (h : i < length ends / 2)
-    (ha : a ≡ get_or ends (2 * i) 0) (hb : b ≡ get_or ends (2 * i + 1) 0) (l : Laid n (take i (rails_of ends)) table) where
-  here : get_or (rails_of ends) i (0, 0) ≡ (a, b)
-  here = rails-at ends i h ∙ rw (ha, hb)
+module _ (n : ℕ) (ends : List Bay) (i : ℕ) (table : List ℕ) (most : n ≤ span) (h : i < length ends / 2)
+    (l : Laid n (take i (rails_of ends)) table) where
+  -- the ends of the rail at hand
+  abbrev pub a : Bay
+  a = get_or ends (2 * i) 0
+
+  abbrev pub b : Bay
+  b = get_or ends (2 * i + 1) 0
 
   pub rail-tested : (r : Bool) → r ≡ leb n a or leb n b or eqb a b or mem_row table a b
       → bad_rail n (take i (rails_of ends)) (get_or (rails_of ends) i (0, 0)) ≡ r
-  rail-tested r e = rw here (bad-in-table n (take i (rails_of ends)) table a b most l ∙ sym e)
+  rail-tested r e = rw (rails-at ends i h) (bad-in-table n (take i (rails_of ends)) table a b most l ∙ sym e)
 
   -- a rail that is not bad has bays for its ends
   pub rail-inside : (r : Bool) → r ≡ leb n a or leb n b or eqb a b or mem_row table a b → r ≡ false → (a < n) × (b < n)
@@ -141,13 +145,13 @@ module _ (n : ℕ) (ends : List Bay) (i a b : ℕ) (table : List ℕ) (most : n 
   pub rail-laid : (table' : List ℕ) → a < n → b < n
       → ((x : ℕ) → mem table' x ≡ mem table x or eqb x (a * span + b) or eqb x (b * span + a)) → Laid n (take (i + 1) (rails_of ends)) table'
   rail-laid table' la lb =
-      laid_on n (rails_of ends) i a b table table' most la lb (omega (arith, rails-length ends)) here l
+      laid_on n (rails_of ends) i a b table table' most la lb (omega (arith, rails-length ends)) (rails-at ends i h) l
 
-pub lays-bad : (n : ℕ) (ends table : List ℕ) (i : ℕ) → first_bad (bad_rail n) 0 [] (rails_of ends) ≡ some i → Lays n ends table (At i)
+pub lays-bad : (n : ℕ) (ends table : List ℕ) (i : ℕ) → first_bad (bad_rail n) 0 [] (rails_of ends) ≡ some i → Lays n ends table (Some i)
 lays-bad n ends table i h = record { which = sym h; laid = λ e. never (cc) }
 
 pub lays_all : (n : ℕ) (ends table : List ℕ) (i : ℕ) → length ends / 2 ≤ i → first_bad (bad_rail n) 0 [] (rails_of ends) ≡ none
-    → Laid n (take i (rails_of ends)) table → Lays n ends table Nothing
+    → Laid n (take i (rails_of ends)) table → Lays n ends table None
 lays_all n ends table i h f l =
     let all : take i (rails_of ends) ≡ rails_of ends = take_all i (rails_of ends) (omega (arith, rails-length ends)) in
     record { which = sym f; laid = λ e. rw all at l }

@@ -13,28 +13,12 @@ use words::{SPAN, WORDS};
 // The words of a table with a row for each bay.
 pub const TABLE: usize = SPAN * WORDS;
 
-// The place of the one that was looked for, if there is one.
-#[derive(Clone, Copy)]
-pub enum Found {
-    At(usize),
-    Nothing,
-}
-
 // Refusal 2 for a rail from a to b, beside those that the table holds.
 fn is_bad(n: usize, table: &[u64], a: usize, b: usize) -> bool
     requires { (n ≤ most_bays) × (n * words ≤ length table.now) }
     ensures { result ≡ leb n a or leb n b or eqb a b or mem_row table.now a b }
 {
-    if n <= a {
-        return true;
-    }
-    if n <= b {
-        return true;
-    }
-    if a == b {
-        return true;
-    }
-    words::is_in(table, a * SPAN + b)
+    n <= a || n <= b || a == b || words::is_in(table, a * SPAN + b)
 }
 
 // The rail goes into the table, in both directions.
@@ -50,48 +34,33 @@ fn lay(table: &mut [u64], a: usize, b: usize)
 }
 
 // The first bad rail. Each good one goes into the table, which has a row for each of the n bays, and the next is tested against the table.
-pub fn bad_rail(n: usize, rails: &[u16], table: &mut [u64]) -> Found
+pub fn bad_rail(n: usize, rails: &[u16], table: &mut [u64]) -> Option<usize>
     requires { (n ≤ most_bays) × (n * words ≤ length table.old) × ((x : ℕ) → mem table.old x ≡ false) }
     ensures { Lays n rails.now table.new result }
 {
-    let count = rails.len() / 2;
-    let mut i = 0;
-    while i < count {
-        let a = wide(rails[2 * i]);
-        let b = wide(rails[2 * i + 1]);
+    for i in 0..rails.len() / 2 {
+        let a = rails[2 * i] as usize;
+        let b = rails[2 * i + 1] as usize;
         if is_bad(n, table, a, b) {
-            return Found::At(i);
+            return Some(i);
         }
         lay(table, a, b);
-        i += 1;
     }
-    Found::Nothing
+    None
 }
 
 // The first carrier whose bay is n or more, or is used already. Each bay has a byte of its own, so that no carrier waits for the one before it.
-pub fn bad_place(n: usize, place: &[u16]) -> Found
+pub fn bad_place(n: usize, place: &[u16]) -> Option<usize>
     requires { n ≤ most_bays }
     ensures { Finds (first_bad (bad_place n) 0 [] place.now) (length place.now) result }
 {
     let mut used = [0u8; SPAN];
-    let mut c = 0;
-    while c < place.len() {
-        let b = wide(place[c]);
-        if n <= b {
-            return Found::At(c);
-        }
-        if used[b] == 1 {
-            return Found::At(c);
+    for (c, bay) in place.iter().enumerate() {
+        let b = *bay as usize;
+        if n <= b || used[b] == 1 {
+            return Some(c);
         }
         used[b] = 1;
-        c += 1;
     }
-    Found::Nothing
-}
-
-// A bay's number as it stands in a list.
-pub fn wide(x: u16) -> usize
-    ensures { result ≡ x }
-{
-    x as usize
+    None
 }

@@ -14,6 +14,7 @@ pub fn first_level(table: &[u64], n: usize, x: Bay, bays: &[u64]) -> usize
 {
     let middle = x.0 as usize;
     let mut j = 0;
+    // A `for` over the levels has to divide the table's length by a level's first. That was tried and is slower: 27 ns a call, against 24.
     while (j + 1) * n * words::WORDS <= table.len() {
         if words::meets(table, j * n + middle, bays, 0) {
             return j;

@@ -1,8 +1,9 @@
 -- After each step r stands at the bay that it stepped to, so the next bay is beside it; and the steps so far, then the rest of the path,
 -- are the whole.
 -- Assumes nothing.
+use Rattle.std.proofs.Common.{None, Some}
 use mathlib.Core.Path.{◌≡◌, sym, ◌∙◌, ap, refl}
-use mathlib.Core.List.{List, [], ◌∷◌, ◌++◌}
+use mathlib.Core.List.{List, [], ◌∷◌}
 use mathlib.Core.Option.{Option, none, some}
 use Prim.Native.Nat.{ℕ, suc, ◌≤◌, ◌<◌, ◌+◌}
 use native.Mathlib.Omega.{arith}
@@ -21,8 +22,6 @@ use Rattle.acting.specs.declared.Tally.{Tally}
 use Rattle.acting.proofs.Acting.{tallied-none, tallied-then, tries-some, tried-done, tried-failed}
 use Rattle.step.specs.Asking.{Loopless, CanStep}
 use Rattle.acting.proofs.Lending.{RestLent, on-the-rest}
-use Rattle.acting.specs.declared.Tried.TheVariants.{Done}
-use Rattle.acting.specs.declared.Tried.TheVariants.{Failed}
 
 -- what is made, and then what the rest answers
 abbrev followed_by : Made → Option Made → Option Made
@@ -66,7 +65,7 @@ going-none Y goals r ahead n p standing empty out k = record {
     plain (some m) = ap some (sym (none-together m))
 
 pub going-all : (Y : Yard) (goals : Placement) (r : Carrier) (ahead : List Bay) (n : ℕ) (p out : List ℕ) (i : ℕ) (p' standing' empty' out' : List ℕ) (m : Tally)
-    → Going Y goals r ahead n p out i p' standing' empty' out' m → length ahead ≤ i → Tries (plan_of (go Y goals r ahead p)) n p out nothing p' standing' empty' out' (Done m)
+    → Going Y goals r ahead n p out i p' standing' empty' out' m → length ahead ≤ i → Tries (plan_of (go Y goals r ahead p)) n p out nothing p' standing' empty' out' (Some m)
 going-all Y goals r ahead n p out i p' standing' empty' out' m g h =
     let nil : plan_of (go Y goals r [] p') ≡ some (only []) = unfold go in refl in
     let e : plan_of (go Y goals r ahead p) ≡ some g.xs = g.answer ∙ rw (drop_of_length-le ahead h, nil) (ap some (together-none g.xs)) in
@@ -74,7 +73,7 @@ going-all Y goals r ahead n p out i p' standing' empty' out' m g h =
 
 module _ {Y : Yard} {goals : Placement} {r : Carrier} {ahead : List Bay} {n : ℕ} {p out : List ℕ} {i : ℕ} {p' standing' empty' out' : List ℕ} {m : Tally} (g : Going Y goals r ahead n p out i p' standing' empty' out' m)
     (here : i < length ahead) {lent rest : List ℕ} {q standing'' empty'' : List ℕ} where
-  pub going_more : {out'' : List ℕ} {b sum : Tally} → RestLent out' m rest b out'' sum → Proceeds (step Y r r (get_or ahead i 0) p') n p' lent nothing q standing'' empty'' rest (Done b)
+  pub going_more : {out'' : List ℕ} {b sum : Tally} → RestLent out' m rest b out'' sum → Proceeds (step Y r r (get_or ahead i 0) p') n p' lent nothing q standing'' empty'' rest (Some b)
       → Going Y goals r ahead n p out (i + 1) q standing'' empty'' out'' sum
   going_more l a =
       let s = tried-done a.tries in
@@ -84,7 +83,7 @@ module _ {Y : Yard} {goals : Placement} {r : Carrier} {ahead : List Bay} {n : �
         answer = g.answer ∙ rw (drop-cons ahead i 0, go-more Y goals r (get_or ahead i 0) (drop (suc i) ahead) p' s.0 s.1, followed-twice, ← add-one, ← s.2.moved);
       }
 
-  pub going-stops : Proceeds (step Y r r (get_or ahead i 0) p') n p' lent nothing q standing'' empty'' rest Failed → plan_of (go Y goals r ahead p) ≡ none
+  pub going-stops : Proceeds (step Y r r (get_or ahead i 0) p') n p' lent nothing q standing'' empty'' rest None → plan_of (go Y goals r ahead p) ≡ none
   going-stops a = g.answer ∙ rw (drop-cons ahead i 0, go-stops Y goals r (get_or ahead i 0) (drop (suc i) ahead) p' (tried-failed a.tries))
 
 -- ## The links
@@ -108,5 +107,5 @@ module _ (n : ℕ) (table : List ℕ) (r : Carrier) (p : Placement) (ahead : Lis
 
 module _ {n : ℕ} {table : List ℕ} (t : Tabled n table) (most : n ≤ span) {finished : ℕ} {r : Carrier} {w : Bay} {p : Placement} (can : CanStep n table finished r w p)
     {standing empty : List ℕ} (k : Placed n p standing empty) where
-  pub arrived : {out : List ℕ} {at b : Tally} {p' standing' empty' out' : List ℕ} → Proceeds (step t.yard finished r w p) n p out at p' standing' empty' out' (Done b) → bay_of p' r ≡ w
+  pub arrived : {out : List ℕ} {at b : Tally} {p' standing' empty' out' : List ℕ} → Proceeds (step t.yard finished r w p) n p out at p' standing' empty' out' (Some b) → bay_of p' r ≡ w
   arrived a = let s = tried-done a.tries in rw s.2.moved (stepped-of t most can k s.0 s.1).arrives

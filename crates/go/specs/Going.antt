@@ -7,7 +7,7 @@ use Rattle.paper.specs.Yard.{Bay, Carrier}
 use Rattle.words.specs.Sets.{mem_row, span}
 use Rattle.moving.specs.Bounds.{swap_most}
 use Rattle.acting.specs.Acting.{Tabled, nothing, Within, Tries}
-use Rattle.acting.specs.declared.Tried.{Tried}
+use Rattle.acting.specs.Tried.{Tried}
 use Rattle.step.specs.Asking.{Loopless, BaysBelow}
 
 -- from u a rail leads to the first of the bays, and from each to the next; all of them are among the n

@@ -5,7 +5,7 @@ ghost use Rattle.acting.specs.Acting.{Ready};
 ghost use Rattle.step.specs.Asking.{StepAsks, StepSettles};
 ghost use Rattle.go.specs.Going.{GoAsks, GoSays};
 
-use acting::Tried;
+use acting::Tally;
 use docket::{Bay, Carrier};
 pub use step;
 use step::NextStep;
@@ -19,7 +19,7 @@ fn advance(
     empty: &mut [u64],
     settled: &mut [u64],
     out: &mut [u64],
-) -> Tried
+) -> Option<Tally>
     requires ready { Ready table.now placement.old standing.old empty.old }
     requires step_asks { StepAsks next table.now placement.old standing.old settled.old }
     ensures { StepSettles next table.now placement.old standing.old out.old
@@ -29,7 +29,7 @@ fn advance(
     let w = next.to;
     let bay = w.0 as usize;
     if words::is_in(empty, bay) {
-        return Tried::Done(step::step_in(r, w, placement, standing, empty, settled, out));
+        return Some(step::step_in(r, w, placement, standing, empty, settled, out));
     }
     step::step(table, next, placement, standing, empty, settled, out)
 }
@@ -44,7 +44,7 @@ pub fn go(
     empty: &mut [u64],
     settled: &mut [u64],
     out: &mut [u64],
-) -> Tried
+) -> Option<Tally>
     requires ready { Ready table.now placement.old standing.old empty.old }
     requires go_asks { GoAsks r.0 ahead.now table.now placement.old standing.old settled.old }
     ensures { GoSays r.0 ahead.now
@@ -53,9 +53,8 @@ pub fn go(
 {
     let finished = r.0 as usize;
     let mut count = acting::NOTHING;
-    let mut i = 0;
-    while i < ahead.len() {
-        let w = Bay(ahead[i]);
+    for bay in ahead {
+        let w = Bay(*bay);
         let next = NextStep {
             finished,
             carrier: r,
@@ -64,11 +63,10 @@ pub fn go(
         let from = acting::place_in(out, count.crossings);
         let rest = &mut out[from..];
         let one = advance(table, next, placement, standing, empty, settled, rest);
-        let Tried::Done(made) = one else {
-            return Tried::Failed;
+        let Some(made) = one else {
+            return None;
         };
         count = acting::add(count, made);
-        i += 1;
     }
-    Tried::Done(count)
+    Some(count)
 }

@@ -1,4 +1,5 @@
 -- The letters of a good map's file are its cells: no line before the rows has a letter, and rows have nothing else.
+use Rattle.std.proofs.Common.{Ok}
 use mathlib.Core.Path.{◌≡◌, refl, sym, ◌∙◌, ap}
 use mathlib.Core.Bool.{true, false}
 use mathlib.Core.List.{List, [], ◌∷◌, ◌++◌, append-nil, append_assoc}
@@ -20,7 +21,6 @@ use Rattle.sides.specs.Letters.{letter}
 use Rattle.sides.specs.Layout.{sides_read}
 use Rattle.stores.specs.Writing.{Wrote}
 use Rattle.gridmap.specs.Cells.{letters, numbering, Reads}
-use Rattle.gridmap.specs.declared.MapRead.TheVariants as read
 use Rattle.gridmap.proofs.RailEnds.{concat-append, concat-one}
 
 -- ## Line ends have no letters
@@ -263,7 +263,7 @@ letters-fit file s e =
     omega (arith, z.full, ap length (map-cells file G q)))
     (λ n q. let y : good s ≡ bad_line n = rw q at e in never (cc))
 
-pub reads-good : (file before : Text) (h w : ℕ) → good (h, w) ≡ sides_read (read_map file) → (after : List ℕ) → Wrote before 0 (numbering 0 (letters file)) after (length (letters file)) → (k : ℕ) → k ≡ count bay_letter (letters file) → Reads file before (read.Grid (record { height = h; width = w; bays = k })) after
+pub reads-good : (file before : Text) (h w : ℕ) → good (h, w) ≡ sides_read (read_map file) → (after : List ℕ) → Wrote before 0 (numbering 0 (letters file)) after (length (letters file)) → (k : ℕ) → k ≡ count bay_letter (letters file) → Reads file before (Ok (record { height = h; width = w; bays = k })) after
 unfolding bay_count
 reads-good file before h w e after wrote k c =
     by_read (read_map file)
@@ -278,11 +278,3 @@ reads-good file before h w e after wrote k c =
       numbers = rw q (wrote.left ∙ ap (λ l. sets before 0 (numbering 0 l)) (sym f));
     })
     (λ n q. let y : good (h, w) ≡ bad_line n = rw q at e in never (cc))
-
-pub reads-bad : (file before : Text) (n : ℕ) → bad_line n ≡ sides_read (read_map file) → Reads file before (read.Bad n) before
-reads-bad file before n e =
-    by_read (read_map file)
-    (λ G q. let y : bad_line n ≡ good (G.height, G.width) = rw q at e in never (cc))
-    (λ m q.
-    let y : bad_line n ≡ bad_line m = rw q at e in
-    record { answer = rw q (cc); numbers = rw q refl })

@@ -44,22 +44,6 @@ numbering-append k [] b = let e : k ≡ k + 0 = omega arith in ap (λ n. mark_of
 numbering-append k (x ∷ a) b =
     ap (λ l. mark_of x k ∷ l) (numbering-append (count_with x k) a b ∙ ap (λ n. numbering (count_with x k) a ++ (mark_of b n ∷ [])) (count-step x k a))
 
-pub mark-bay : (b k : ℕ) (r : Bool) → r ≡ bay_letter b → r ≡ true → k + 1 ≡ mark_of b k
-unfolding mark_of
-mark-bay b k r e t = rw (← e, t)
-
-pub mark-wall : (b k : ℕ) (r : Bool) → r ≡ bay_letter b → r ≡ false → 0 ≡ mark_of b k
-unfolding mark_of
-mark-wall b k r e t = rw (← e, t)
-
-pub count-bay : (b k : ℕ) (r : Bool) → r ≡ bay_letter b → r ≡ true → k + 1 ≡ count_with b k
-unfolding count_with
-count-bay b k r e t = rw (← e, t)
-
-pub count-wall : (b k : ℕ) (r : Bool) → r ≡ bay_letter b → r ≡ false → k ≡ count_with b k
-unfolding count_with
-count-wall b k r e t = rw (← e, t)
-
 -- ## The letters of the first i bytes
 module _ (file : Text) (i : ℕ) (more : i < length file) where
   pub letters-more : letter (get_or file i 0) ≡ true → letters (take (i + 1) file) ≡ letters (take i file) ++ (get_or file i 0 ∷ [])

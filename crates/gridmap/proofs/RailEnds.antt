@@ -1,60 +1,20 @@
 -- The rails of one cell more stand behind those of the cells before it.
 use mathlib.Core.Path.{◌≡◌, refl, sym, ◌∙◌, ap}
 use mathlib.Core.List.{List, [], ◌∷◌, ◌++◌, map, map-append, append_assoc, append-nil}
-use mathlib.Core.Option.{none, some}
-use Prim.Native.Nat.{ℕ, zero, suc, ◌+◌, ◌-◌, ◌*◌, ◌%◌, ◌^◌, ◌≤◌, ◌<◌}
+use Prim.Native.Nat.{ℕ, zero, suc, ◌+◌, ◌-◌, ◌*◌, ◌^◌, ◌≤◌, ◌<◌}
 use native.Mathlib.Omega.{arith}
-use native.Mathlib.Nat.{mul-le-mul_left, mul-zero}
+use native.Mathlib.Nat.{mul-le-mul_left}
 use native.Mathlib.Numerals.{add-one}
-use lib.Dec.{eqb, ltb}
-use lib.ListN.{length, set, get_or, length-append, get_or-eq_default}
-use borrow.Author.Tests.{ne_eqb, lt-ltb, le-ltb}
+use lib.Dec.{eqb}
+use lib.ListN.{length, length-append}
 use Rattle.paper.specs.Basics.{concat, count_from, up_to}
 use Rattle.paper.proofs.Tests.{by_cases}
 use Rattle.stores.specs.Writing.{Wrote}
-use Rattle.gridmap.specs.Cells.{number_in, beside_in, rail_of, rails_at_in, rails_to, numbered, bay_found}
+use Rattle.gridmap.specs.Cells.{number_in, beside_in, rail_of, rails_at_in, rails_to}
 
 -- sides of 8 bits make a product of 16, and one that is no 0 has no side 0
 pub product_small : (a b : ℕ) → a < 2 ^ 8 → b < 2 ^ 8 → a * b < 2 ^ 16
 product_small a b h i = let m : a * b ≤ a * (2 ^ 8 - 1) = mul-le-mul_left a (omega arith) in omega arith
-
-pub product-some : (a b i : ℕ) → i < a * b → 0 < b
-product-some a zero i h = absurd (omega (arith, mul-zero a))
-product-some a (suc b) i h = omega arith
-
-module _ (t : List ℕ) (size i : ℕ) where
-  pub number-in : i < size → get_or t i 0 ≡ number_in t size i
-  unfolding number_in
-  number-in h = rw (lt-ltb i size h)
-
-  pub number_past : length t ≤ i → 0 ≡ number_in t size i
-  unfolding number_in
-  number_past h = rw (get_or-eq_default t 0 {n = i} h) (by_cases (ltb i size) (λ e. rw e) (λ e. rw e))
-
-  pub number-out : size ≤ i → 0 ≡ number_in t size i
-  unfolding number_in
-  number-out h = rw (le-ltb i size h)
-
-  pub beside-in : (width : ℕ) → i % width + 1 < width → number_in t size (i + 1) ≡ beside_in t size width i
-  unfolding beside_in
-  beside-in width h = rw (lt-ltb (i % width + 1) width h)
-
-  pub beside-out : (width : ℕ) → width ≤ i % width + 1 → 0 ≡ beside_in t size width i
-  unfolding beside_in
-  beside-out width h = rw (le-ltb (i % width + 1) width h)
-
-module _ (l : List ℕ) (at a b : ℕ) where
-  pub rail-none : a ≡ 0 → Wrote l at (rail_of a b) l at
-  unfolding rail_of
-  rail-none e = rw e (record { left = refl; counted = omega arith })
-
-  pub rail-half : (a ≡ 0 → ⊥) → b ≡ 0 → Wrote l at (rail_of a b) l at
-  unfolding rail_of
-  rail-half n e = rw (ne_eqb a 0 n, e) (record { left = refl; counted = omega arith })
-
-  pub rail-both : (a ≡ 0 → ⊥) → (b ≡ 0 → ⊥) → (m k : List ℕ) → m ≡ set l at (a - 1) → k ≡ set m (at + 1) (b - 1) → Wrote l at (rail_of a b) k (at + 2)
-  unfolding rail_of
-  rail-both n n' m k e f = rw (ne_eqb a 0 n, ne_eqb b 0 n', f, e, add-one at) (record { left = refl; counted = refl })
 
 rail-short : (a b : ℕ) → length (rail_of a b) ≤ 2
 unfolding rail_of
@@ -96,26 +56,3 @@ module _ (t : List ℕ) (size width : ℕ) where
   rails-short i =
       let a = number_in t size i in
       omega (arith, length-append (rail_of (number_in t size i) (beside_in t size width i)) (rail_of (number_in t size i) (number_in t size (i + width))), rail-short (number_in t size i) (beside_in t size width i), rail-short (number_in t size i) (number_in t size (i + width)))
-
-numbered-some : (n : ℕ) → (n ≡ 0 → ⊥) → numbered n ≡ some (n - 1)
-unfolding numbered
-numbered-some zero m = absurd (m refl)
-numbered-some (suc n) m = ap some (omega arith)
-
-module _ (t : List ℕ) (height width x y : ℕ) where
-  pub cell-side : width ≤ x → none ≡ bay_found t height width x y
-  unfolding bay_found
-  cell-side h = rw (le-ltb x width h)
-
-  pub cell-low : x < width → height ≤ y → none ≡ bay_found t height width x y
-  unfolding bay_found
-  cell-low h i = rw (lt-ltb x width h, le-ltb y height i)
-
-  module _ (n : ℕ) (h : x < width) (i : y < height) (is : n ≡ number_in t (height * width) (y * width + x)) where
-    pub cell-wall : n ≡ 0 → none ≡ bay_found t height width x y
-    unfolding bay_found numbered
-    cell-wall e = rw (lt-ltb x width h, lt-ltb y height i, ← is, e)
-
-    pub cell-bay : (n ≡ 0 → ⊥) → some (n - 1) ≡ bay_found t height width x y
-    unfolding bay_found
-    cell-bay m = rw (lt-ltb x width h, lt-ltb y height i, ← is) (sym (numbered-some n m))

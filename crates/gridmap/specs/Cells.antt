@@ -1,6 +1,6 @@
 -- The cells of a map as a list of numbers, and its rails and bays by that list.
 -- Assumes nothing.
-use Rattle.std.specs.Prelude.{List, [], ◌∷◌, ◌++◌, map, ◌≡◌, ℕ, zero, suc, ◌+◌, ◌-◌, ◌*◌, ◌%◌, eqb, ltb, get_or, if◌then◌else◌}
+use Rattle.std.specs.Prelude.{List, [], ◌∷◌, ◌++◌, map, ◌≡◌, ℕ, zero, suc, ◌+◌, ◌-◌, ◌*◌, ◌%◌, eqb, ltb, get_or, if◌then◌else◌, Err, None, Ok, Some}
 use Rattle.std.proofs.Math.Option.{Option, none, some}
 use Rattle.std.proofs.lemmas.List.Edits.{sets}
 use Rattle.paper.specs.Basics.{filter, concat, up_to}
@@ -8,10 +8,8 @@ use Rattle.paper.specs.Yard.{Bay}
 use Rattle.paper.specs.Text.{Text, Read, good, bad_line}
 use Rattle.paper.specs.Map.{Grid, bay_letter, read_map, cells, bay_count}
 use Rattle.sides.specs.Letters.{letter}
-use Rattle.gridmap.specs.declared.MapRead.{MapRead}
-use Rattle.gridmap.specs.declared.MapRead.TheVariants as read
-use Rattle.gridmap.specs.declared.Cell.{Cell}
-use Rattle.gridmap.specs.declared.Cell.TheVariants as cell
+use Rattle.gridmap.specs.MapRead.{MapRead}
+use Rattle.gridmap.specs.Cell.{Cell}
 
 -- the letters of rows in a text
 abbrev pub letters : Text → Text
@@ -61,13 +59,13 @@ bay_found t height width x y =
     if ltb x width then if ltb y height then numbered (number_in t (height * width) (y * width + x)) else none else none
 
 abbrev pub cell_of : Cell → Option Bay
-cell_of (cell.Bay b) = some b
-cell_of cell.Wall = none
+cell_of (Some b) = some b
+cell_of None = none
 
 -- ## A map that was read: its height, its width, the count of its bays
 abbrev pub map_of : MapRead → Read (ℕ × ℕ × ℕ)
-map_of (read.Grid g) = good (g.height, g.width, g.bays)
-map_of (read.Bad n) = bad_line n
+map_of (Ok g) = good (g.height, g.width, g.bays)
+map_of (Err n) = bad_line n
 
 abbrev pub shape_of : Read Grid → Read (ℕ × ℕ × ℕ)
 shape_of (good G) = good (G.height, G.width, bay_count G)

@@ -8,28 +8,12 @@ ghost use Rattle.paper.specs.Text.{count};
 ghost use Rattle.stores.specs.Writing.{Wrote};
 ghost use Rattle.gridmap.specs.Cells.{letters, mark_of, count_with, numbering, number_in, beside_in, rail_of, rails_at_in, rails_in, cell_of, bay_found, Reads};
 
-use sides::Sides;
-
 // The sides of a map and the count of its bays.
 #[derive(Clone, Copy)]
 pub struct Grid {
     pub height: u8,
     pub width: u8,
     pub bays: u16,
-}
-
-// A map, or its first bad line.
-#[derive(Clone, Copy)]
-pub enum MapRead {
-    Grid(Grid),
-    Bad(u64),
-}
-
-// The bay of a cell; walls and what lies outside the map have none.
-#[derive(Clone, Copy)]
-pub enum Cell {
-    Bay(u16),
-    Wall,
 }
 
 // The bays up to this letter.
@@ -57,12 +41,9 @@ fn number(file: &[u8], cells: &mut [u16]) -> u16
 {
     let mut bays: u16 = 0;
     let mut n = 0;
-    let mut i = 0;
-    while i < file.len() {
-        let b = file[i];
-        i += 1;
+    for &b in file {
         if sides::is_letter(b) {
-            stores::short(cells, n, mark(b, bays));
+            stores::store(cells, n, mark(b, bays));
             bays = counted(b, bays);
             n += 1;
         }
@@ -71,20 +52,20 @@ fn number(file: &[u8], cells: &mut [u16]) -> u16
 }
 
 // The map; its cells are numbered from the first on. A refused one changes none.
-pub fn read(file: &[u8], cells: &mut [u16]) -> MapRead
+pub fn read(file: &[u8], cells: &mut [u16]) -> Result<Grid, u64>
     ensures { Reads file.now cells.old result cells.new }
 {
     let found = sides::read(file);
     match found {
-        Sides::Sides(height, width) => {
+        Ok((height, width)) => {
             let bays = number(file, cells);
-            MapRead::Grid(Grid {
+            Ok(Grid {
                 height: height,
                 width: width,
                 bays: bays,
             })
         }
-        Sides::Bad(line) => MapRead::Bad(line),
+        Err(line) => Err(line),
     }
 }
 
@@ -92,13 +73,11 @@ pub fn read(file: &[u8], cells: &mut [u16]) -> MapRead
 fn number_at(cells: &[u16], size: usize, i: usize) -> u16
     ensures { result ≡ number_in cells.now size i }
 {
-    if i < size {
-        if i < cells.len() {
-            return cells[i];
-        }
-        return 0;
+    if i < size && i < cells.len() {
+        cells[i]
+    } else {
+        0
     }
-    0
 }
 
 // That of the cell beside it, if it stands in the same row.
@@ -107,9 +86,10 @@ fn number_beside(cells: &[u16], size: usize, width: usize, i: usize) -> u16
     ensures { result ≡ beside_in cells.now size width i }
 {
     if i % width + 1 < width {
-        return number_at(cells, size, i + 1);
+        number_at(cells, size, i + 1)
+    } else {
+        0
     }
-    0
 }
 
 // The rail between two cells, where both are bays.
@@ -117,14 +97,11 @@ fn put_rail(ends: &mut [u16], at: usize, a: u16, b: u16) -> usize
     requires { at + 2 < 2 ^ 63 }
     ensures { Wrote ends.old at (rail_of a b) ends.new result }
 {
-    if a == 0 {
+    if a == 0 || b == 0 {
         return at;
     }
-    if b == 0 {
-        return at;
-    }
-    stores::short(ends, at, a - 1);
-    stores::short(ends, at + 1, b - 1);
+    stores::store(ends, at, a - 1);
+    stores::store(ends, at + 1, b - 1);
     at + 2
 }
 
@@ -154,31 +131,26 @@ pub fn rails(grid: Grid, cells: &[u16], ends: &mut [u16]) -> usize
     let width = grid.width as usize;
     let size = (grid.height as usize) * width;
     let mut at = 0;
-    let mut i = 0;
-    while i < size {
+    for i in 0..size {
         at = put_rails(cells, size, width, i, ends, at);
-        i += 1;
     }
     at
 }
 
 // The bay at column x and row y, from 0 at top left.
-pub fn bay_in(grid: Grid, cells: &[u16], x: u32, y: u32) -> Cell
+pub fn bay_in(grid: Grid, cells: &[u16], x: u32, y: u32) -> Option<u16>
     ensures { cell_of result ≡ bay_found cells.now grid.height grid.width x y }
 {
     let width = grid.width as usize;
     let height = grid.height as usize;
     let column = x as usize;
     let row = y as usize;
-    if column < width {
-        if row < height {
-            let n = number_at(cells, height * width, row * width + column);
-            if n == 0 {
-                return Cell::Wall;
-            }
-            return Cell::Bay(n - 1);
+    if column < width && row < height {
+        let n = number_at(cells, height * width, row * width + column);
+        if n == 0 {
+            return None;
         }
-        return Cell::Wall;
+        return Some(n - 1);
     }
-    Cell::Wall
+    None
 }

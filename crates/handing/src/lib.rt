@@ -7,7 +7,7 @@ ghost use Rattle.docket.specs.Reading.{verdict_of};
 ghost use Rattle.printing.specs.Parts.{handed as lent};
 ghost use Rattle.handing.specs.Handing.{Hands, handed};
 
-use docket::{Refusal, Verdict};
+use docket::Refusal;
 
 // A text that is there already.
 pub fn text(from: &[u8], out: &mut [u8]) -> usize
@@ -15,7 +15,7 @@ pub fn text(from: &[u8], out: &mut [u8]) -> usize
 {
     let n = from.len();
     if n <= out.len() {
-        copies::bytes(out, from);
+        copies::copy(out, from);
     }
     n
 }
@@ -33,12 +33,12 @@ pub fn plan(plan: &[u64], out: &mut [u8]) -> usize
 }
 
 // What is answered then: so many were written, or so many are needed.
-pub fn answer(needed: usize, has: usize) -> Verdict
+pub fn answer(needed: usize, has: usize) -> Result<u64, Refusal>
     ensures { verdict_of result ≡ handed needed has }
 {
     let n = needed as u64;
     if needed <= has {
-        return Verdict::Granted(n);
+        return Ok(n);
     }
-    Verdict::Denied(Refusal::Room(n))
+    Err(Refusal::Room(n))
 }

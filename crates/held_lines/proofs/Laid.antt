@@ -1,11 +1,11 @@
 -- Lines laid over the first places of others, one line at a time: one more line is one `set`, and once as many are laid as there are lines or places, all
 -- are laid. What is laid stands at its place.
 use mathlib.Core.Path.{◌≡◌, refl, sym, ◌∙◌, ap}
-use mathlib.Core.List.{List, [], ◌∷◌}
+use mathlib.Core.List.{List, [], ◌∷◌, ◌++◌}
 use Prim.Native.Nat.{ℕ, zero, suc, ◌<◌, ◌≤◌, min}
 use native.Mathlib.Omega.{arith}
 use native.Mathlib.Nat.{min-zero, zero-min, suc-min-suc}
-use lib.ListN.{length, get_or, set, take, length-replicate}
+use lib.ListN.{length, get_or, set, take, drop, length-replicate}
 use Rattle.paper.specs.Limits.{most_bays}
 use Rattle.bills.specs.Billing.{no_line}
 use Rattle.bills.specs.declared.Line.{Line}
@@ -24,6 +24,12 @@ unfolding laid
 laid-all [] os = ap (λ (k : ℕ). laid (take k []) os) (zero-min (length os))
 laid-all (x ∷ ls) [] = ap (λ (k : ℕ). laid (take k (x ∷ ls)) []) (min-zero (suc (length ls)))
 laid-all (x ∷ ls) (o ∷ os) = ap (λ (k : ℕ). laid (take k (x ∷ ls)) (o ∷ os)) (suc-min-suc (length ls) (length os)) ∙ ap {B = List Line} (λ r. x ∷ r) (laid-all ls os)
+
+laid-copied : (ls os : List Line) → take (min (length ls) (length os)) ls ++ drop (min (length ls) (length os)) os ≡ laid ls os
+unfolding laid
+laid-copied [] os = rw (zero-min (length os))
+laid-copied (x ∷ ls) [] = rw (min-zero (suc (length ls)))
+laid-copied (x ∷ ls) (o ∷ os) = rw (suc-min-suc (length ls) (length os)) (ap {B = List Line} (λ r. x ∷ r) (laid-copied ls os))
 
 laid-long : (ls os : List Line) → length (laid ls os) ≡ length os
 unfolding laid
@@ -56,13 +62,13 @@ pub one-more-read : (ls : List Line) (i : ℕ) (d : Line) → i < length ls → 
 unfolding read_to
 one-more-read ls i d l = laid-one-more i ls no_lines d l
 
-pub read_length : (ls : List Line) (i : ℕ) → length (read_to ls i) ≡ most_bays
-unfolding read_to
-read_length ls i = laid-long (take i ls) no_lines ∙ length-replicate most_bays no_line
-
 pub all_read : (ls : List Line) → held_of (length ls) (read_to ls (top_of (length ls))) ≡ gathered ls
 unfolding read_to
 all_read ls = ap (held_of (length ls)) (ap (λ (k : ℕ). laid (take (min (length ls) k) ls) no_lines) (sym (length-replicate most_bays no_line)) ∙ laid-all ls no_lines)
+
+-- the first lines copied over as many of the empty ones
+pub all_copied : (ls : List Line) → held_of (length ls) (take (top_of (length ls)) ls ++ drop (top_of (length ls)) no_lines) ≡ gathered ls
+all_copied ls = ap (held_of (length ls)) (rw length-replicate at (laid-copied ls no_lines))
 
 pub held-long : (ls : List Line) → length (gathered ls).lines ≡ most_bays
 held-long ls = laid-long ls no_lines ∙ length-replicate most_bays no_line

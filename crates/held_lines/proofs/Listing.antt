@@ -15,8 +15,8 @@ use Rattle.paper.proofs.Reach.{count-length}
 use Rattle.bills.specs.Billing.{no_line, untouched, last_done, lines_of, line_of}
 use Rattle.bills.specs.declared.Line.{Line}
 use Rattle.bills.proofs.Stepping.{count_at, line-at, lines_long, line-parts}
-use Rattle.held_lines.specs.Lines.{no_lines, held_of, top_of, listed, gathered}
-use Rattle.held_lines.proofs.Laid.{read_to, none_read, one-more-read, all_read}
+use Rattle.held_lines.specs.Lines.{held_of, top_of, listed, gathered}
+use Rattle.held_lines.proofs.Laid.{read_to, one-more-read, all_read}
 
 module _ (k : ℕ) (billed last : List ℕ) where
   abbrev line_for : Carrier → Line
@@ -28,24 +28,15 @@ module _ (k : ℕ) (billed last : List ℕ) where
   pub listed_at : (c : Carrier) → c < k → get_or (listed k billed last) c no_line ≡ line_for c
   listed_at c h = count_at line_for 0 k c no_line h ∙ ap line_for (omega arith)
 
-  pub record Listing (lines : List Line) (c : ℕ) : Type 0 where
-    pub within : c ≤ k
-    pub so_far : lines ≡ read_to (listed k billed last) c
+  pub listing-on : (lines : List Line) (c : ℕ) → lines ≡ read_to (listed k billed last) c → c < k → set lines c (line_for c) ≡ read_to (listed k billed last) (c + 1)
+  listing-on lines c so_far h =
+      rw (add-one c)
+      (ap₂ (λ (a : List Line) (b : Line). set a c b) so_far (sym (listed_at c h)) ∙ one-more-read (listed k billed last) c no_line (rw listed-long h))
 
-  pub listing_start : (lines : List Line) → lines ≡ no_lines → Listing lines 0
-  listing_start lines e = record { within = omega arith; so_far = e ∙ none_read (listed k billed last) }
-
-  pub listing-on : (lines : List Line) (c : ℕ) → Listing lines c → c < k → Listing (set lines c (line_for c)) (c + 1)
-  listing-on lines c l h = record {
-    within = omega arith;
-    so_far = rw (add-one c)
-        (ap₂ (λ (a : List Line) (b : Line). set a c b) l.so_far (sym (listed_at c h)) ∙ one-more-read (listed k billed last) c no_line (rw listed-long h));
-  }
-
-  pub listing-end : (lines : List Line) (c : ℕ) → Listing lines c → k ≤ most_bays → k ≤ c → held_of k lines ≡ gathered (listed k billed last)
-  listing-end lines c l few h =
-      let all : c ≡ top_of (length (listed k billed last)) = omega (arith, l.within, listed-long) in
-      ap₂ held_of (sym listed-long) (l.so_far ∙ ap (read_to (listed k billed last)) all) ∙ all_read (listed k billed last)
+  pub listing-end : (lines : List Line) (c : ℕ) → lines ≡ read_to (listed k billed last) c → k ≤ most_bays → c ≡ k → held_of k lines ≡ gathered (listed k billed last)
+  listing-end lines c so_far few end =
+      let all : c ≡ top_of (length (listed k billed last)) = omega (arith, listed-long) in
+      ap₂ held_of (sym listed-long) (so_far ∙ ap (read_to (listed k billed last)) all) ∙ all_read (listed k billed last)
 
   pub listed-afresh : (xs : List Crossing) (ms : List ℕ) → k ≤ most_bays
       → ((c : Carrier) → c < most_bays → get_or billed c 0 ≡ count_of c (done_of xs ms))

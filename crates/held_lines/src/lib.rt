@@ -27,21 +27,14 @@ pub fn no_lines() -> [Line; Yard::BAYS]
 pub fn hold(count: usize, lines: [Line; Yard::BAYS]) -> HeldLines
     ensures { result ≡ held_of count lines }
 {
-    HeldLines {
-        count: count,
-        lines: lines,
-    }
+    HeldLines { count, lines }
 }
 
 // How many of so many lines are held.
 pub fn top(count: usize) -> usize
     ensures { result ≡ top_of count }
 {
-    if count < Yard::BAYS {
-        count
-    } else {
-        Yard::BAYS
-    }
+    count.min(Yard::BAYS)
 }
 
 // The line at place i: none past the last place.
@@ -58,14 +51,12 @@ pub fn list_lines(count: usize, billed: &[u32; Yard::BAYS], last: &[u32; Yard::B
     ensures { result ≡ gathered (listed count billed.now last.now) }
 {
     let mut lines = no_lines();
-    let mut c = 0;
-    while c < count {
+    for c in 0..count {
         lines[c] = Line {
             carrier: c as u32,
             billed: billed[c],
             last: last[c],
         };
-        c += 1;
     }
     hold(count, lines)
 }

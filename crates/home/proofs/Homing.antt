@@ -1,5 +1,6 @@
 -- The bays looked after are those from i on; each turn adds the bay before them, as the paper's way home does.
 -- Assumes nothing.
+use Rattle.std.proofs.Common.{Err, None, Ok, Some}
 use mathlib.Core.Path.{◌≡◌, sym, ◌∙◌, ap, refl}
 use mathlib.Core.List.{List, [], ◌∷◌, ◌++◌}
 use Prim.Native.Nat.{ℕ, suc, ◌≤◌, ◌<◌, ◌+◌, zero}
@@ -24,10 +25,6 @@ use Rattle.go.specs.FromBelow.{Loopless}
 use Rattle.go.specs.Going.{Linked}
 use Rattle.acting.proofs.Lending.{RestLent, on-the-rest}
 use Rattle.home.proofs.Settling.{Settled, Homeward, due, homed}
-use Rattle.acting.specs.declared.Tried.TheVariants.{Done}
-use Rattle.acting.specs.declared.Tried.TheVariants.{Failed}
-use Rattle.home.specs.declared.Staged.TheVariants.{Planned}
-use Rattle.home.specs.declared.Staged.TheVariants.{Stuck}
 use Rattle.docket.specs.declared.Carrier.{Carrier as Named}
 
 -- ## Whose goal a bay is
@@ -66,19 +63,19 @@ module _ {n : ℕ} {goals owner : List ℕ} (o : Owners n goals owner) (finished
 -- ## One bay
 
 module _ {o : Outcome} {n : ℕ} {p out : List ℕ} {at : Tally} where
-  pub stages-none : {standing empty : List ℕ} → o ≡ planned (only []) → Placed n p standing empty → Stages o n p out at p standing empty out (Planned at)
+  pub stages-none : {standing empty : List ℕ} → o ≡ planned (only []) → Placed n p standing empty → Stages o n p out at p standing empty out (Ok at)
   stages-none {standing} {empty} e k = record {
     plans = λ m d. let same : at ≡ m = cc in (only [], e, rw (← same) (tallied-none n p standing empty out at k));
     stops = λ c d. never (cc);
   }
 
-  pub stages-done : {p' standing' empty' out' : List ℕ} {m : Tally} {xs : Made} → o ≡ planned xs → Tallied xs n p p' standing' empty' out at out' m → Stages o n p out at p' standing' empty' out' (Planned m)
+  pub stages-done : {p' standing' empty' out' : List ℕ} {m : Tally} {xs : Made} → o ≡ planned xs → Tallied xs n p p' standing' empty' out at out' m → Stages o n p out at p' standing' empty' out' (Ok m)
   stages-done {m = m} {xs = xs} e w = record {
     plans = λ b d. let same : m ≡ b = cc in (xs, e, rw same at w);
     stops = λ c d. never (cc);
   }
 
-  pub stages-stuck : {p' standing' empty' out' : List ℕ} {c : Named} → o ≡ stuck c.0 → Stages o n p out at p' standing' empty' out' (Stuck c)
+  pub stages-stuck : {p' standing' empty' out' : List ℕ} {c : Named} → o ≡ stuck c.0 → Stages o n p out at p' standing' empty' out' (Err c)
   stages-stuck {c = c} e = record {
     plans = λ m d. never (cc);
     stops = λ b d. let same : c ≡ b = cc in e ∙ ap (λ (f : Named). stuck f.0) same;
@@ -99,12 +96,12 @@ module _ (Y : Yard) (goals : Placement) (finished : ℕ) (v : Bay) (p : Placemen
     home-away d = rw (← e, lt-ltb c finished h, ne_eqb (bay_of p c) v d)
 
     pub home-steps : {n : ℕ} {out : List ℕ} {at : Tally} {p' standing' empty' out' : List ℕ} {m : Tally} → (bay_of p c ≡ v → ⊥)
-        → Proceeds (step Y finished c v p) n p out at p' standing' empty' out' (Done m) → Stages (home_at Y goals finished v p) n p out at p' standing' empty' out' (Planned m)
+        → Proceeds (step Y finished c v p) n p out at p' standing' empty' out' (Some m) → Stages (home_at Y goals finished v p) n p out at p' standing' empty' out' (Ok m)
     unfolding or_stuck
     home-steps d a = let s = tried-done a.tries in stages-done (home-away d ∙ ap (or_stuck c) s.1) s.2
 
     pub home-stuck : {n : ℕ} {out : List ℕ} {at : Tally} {p' standing' empty' out' : List ℕ} {f : Named} → f.0 ≡ c → (bay_of p c ≡ v → ⊥)
-        → Proceeds (step Y finished c v p) n p out at p' standing' empty' out' Failed → Stages (home_at Y goals finished v p) n p out at p' standing' empty' out' (Stuck f)
+        → Proceeds (step Y finished c v p) n p out at p' standing' empty' out' None → Stages (home_at Y goals finished v p) n p out at p' standing' empty' out' (Err f)
     unfolding or_stuck
     home-stuck q d a = stages-stuck (home-away d ∙ ap (or_stuck c) (tried-failed a.tries) ∙ ap stuck (sym q))
 
@@ -142,7 +139,7 @@ module _ (Y : Yard) (goals : Placement) (finished : ℕ) (p : Placement) where
 
 module _ {Y : Yard} {goals : Placement} {finished : ℕ} {bays : List Bay} {n : ℕ} {p out : List ℕ} {at : Tally} {i : ℕ} {p' standing' empty' out' : List ℕ} {m : Tally}
     (g : Homed Y goals finished bays n p out at (i + 1) p' standing' empty' out' m) (here : i < length bays) {lent rest q standing'' empty'' : List ℕ} where
-  pub homed_more : {out'' : List ℕ} {b sum : Tally} → RestLent out' m rest b out'' sum → Stages (home_at Y goals finished (get_or bays i 0) p') n p' lent nothing q standing'' empty'' rest (Planned b)
+  pub homed_more : {out'' : List ℕ} {b sum : Tally} → RestLent out' m rest b out'' sum → Stages (home_at Y goals finished (get_or bays i 0) p') n p' lent nothing q standing'' empty'' rest (Ok b)
       → Homed Y goals finished bays n p out at i q standing'' empty'' out'' sum
   homed_more {b = b} l s =
       let w = s.plans b refl in
@@ -152,13 +149,13 @@ module _ {Y : Yard} {goals : Placement} {finished : ℕ} {bays : List Bay} {n : 
         played = tallied-then g.played (on-the-rest l w.2);
       }
 
-  pub homed-stops : {c : Named} → Stages (home_at Y goals finished (get_or bays i 0) p') n p' lent nothing q standing'' empty'' rest (Stuck c) → way_home Y goals finished bays p ≡ stuck c.0
+  pub homed-stops : {c : Named} → Stages (home_at Y goals finished (get_or bays i 0) p') n p' lent nothing q standing'' empty'' rest (Err c) → way_home Y goals finished bays p ≡ stuck c.0
   homed-stops {c = c} s =
       stuck-whole Y goals finished p bays i c.0
       (rw (drop-cons bays i 0) (stuck-cons Y goals finished p (get_or bays i 0) (drop (suc i) bays) g.xs c.0 (rw add-one at g.answer) (rw g.played.moved at (s.stops c refl))))
 
 pub homed_all : {Y : Yard} {goals : Placement} {finished : ℕ} {bays : List Bay} {n : ℕ} {p out : List ℕ} {at : Tally} {p' standing' empty' out' : List ℕ} {m : Tally}
-    → Homed Y goals finished bays n p out at 0 p' standing' empty' out' m → Stages (way_home Y goals finished bays p) n p out at p' standing' empty' out' (Planned m)
+    → Homed Y goals finished bays n p out at 0 p' standing' empty' out' m → Stages (way_home Y goals finished bays p) n p out at p' standing' empty' out' (Ok m)
 homed_all g = stages-done g.answer g.played
 
 -- ## The path
@@ -175,10 +172,10 @@ linked-all n table u (x ∷ xs) l (suc i) h k = linked-all n table x xs l i (ome
 
 -- ## The turns
 
-pub at_most : {k : ℕ} {m : Tally} → m.crossings ≤ k → AtMost k (Planned m)
+pub at_most : {k : ℕ} {m : Tally} → m.crossings ≤ k → AtMost k (Ok m)
 at_most {m = m} h = record { few = λ b e. let same : m ≡ b = cc in rw same at h }
 
-pub at-most-stuck : {k : ℕ} {c : Named} → AtMost k (Stuck c)
+pub at-most-stuck : {k : ℕ} {c : Named} → AtMost k (Err c)
 at-most-stuck = record { few = λ b e. never (cc) }
 
 module _ {n : ℕ} {table goals : List ℕ} {finished : ℕ} {bays p₀ : List ℕ} (h : Homeward n table goals finished bays p₀) (goals-apart : Apart goals) (hf : finished ≤ length goals)
@@ -197,7 +194,7 @@ module _ {n : ℕ} {table goals : List ℕ} {finished : ℕ} {bays p₀ : List �
       (split_at bays (h.last ∷ []) i here) p len behind n table h.linked)
 
   pub turn-homed : (t : Tabled n table) → n ≤ span → Loopless n table → {standing empty out : List ℕ} {at b : Tally} {q standing' empty' out' : List ℕ} → Placed n p standing empty
-      → Stages (home_at t.yard goals finished (get_or bays i 0) p) n p out at q standing' empty' out' (Planned b)
+      → Stages (home_at t.yard goals finished (get_or bays i 0) p) n p out at q standing' empty' out' (Ok b)
       → Settled goals finished h.first (bays ++ (h.last ∷ [])) (drop i bays ++ (h.last ∷ [])) q
   turn-homed t most loopless {b = b} k s =
       let w = s.plans b refl in

@@ -1,6 +1,6 @@
 -- What the way home asks at one bay, and how the answer of a stage reads as the paper's outcome.
 -- Assumes nothing.
-use Rattle.std.specs.Prelude.{◌≡◌, true, List, ℕ, ◌≤◌, ◌<◌, length, get_or}
+use Rattle.std.specs.Prelude.{◌≡◌, true, List, ℕ, ◌≤◌, ◌<◌, length, get_or, Err, Ok}
 use Rattle.paper.specs.Procedure.{Made, Outcome, planned, stuck, home_at}
 use Rattle.paper.specs.Yard.{Bay, Yard, Placement, bay_of, carrier_at}
 use Rattle.words.specs.Sets.{mem_row}
@@ -9,8 +9,7 @@ use Rattle.acting.specs.Acting.{Tabled, nothing, Tallied}
 use Rattle.acting.specs.declared.Tally.{Tally}
 use Rattle.go.specs.FromBelow.{Loopless, BaysBelow}
 use Rattle.home.specs.declared.HomeBay.{HomeBay}
-use Rattle.home.specs.declared.Staged.{Staged}
-use Rattle.home.specs.declared.Staged.TheVariants.{Planned, Stuck}
+use Rattle.home.specs.Staged.{Staged}
 use Rattle.docket.specs.declared.Carrier.{Carrier as Named}
 
 -- whose goal each of the n bays is; at a bay that is nobody's stands the carrier `length goals`, which there is not
@@ -20,12 +19,12 @@ pub record Owners (n : ℕ) (goals owner : List ℕ) : Type 0 where
 
 -- at most k crossings were made
 pub record AtMost (k : ℕ) (z : Staged) : Type 0 where
-  pub few : (m : Tally) → z ≡ Planned m → m.crossings ≤ k
+  pub few : (m : Tally) → z ≡ Ok m → m.crossings ≤ k
 
 -- as the paper's stage: what it makes was played, or the carrier that it names could not step
 pub record Stages (o : Outcome) (n : ℕ) (p out : List ℕ) (at : Tally) (p' standing' empty' out' : List ℕ) (z : Staged) : Type 0 where
-  pub plans : (m : Tally) → z ≡ Planned m → (made : Made) × (o ≡ planned made) × Tallied made n p p' standing' empty' out at out' m
-  pub stops : (c : Named) → z ≡ Stuck c → o ≡ stuck c.0
+  pub plans : (m : Tally) → z ≡ Ok m → (made : Made) × (o ≡ planned made) × Tallied made n p p' standing' empty' out at out' m
+  pub stops : (c : Named) → z ≡ Err c → o ≡ stuck c.0
 
 -- stages what the paper's stage comes to, in the yard that the table shows
 abbrev pub StagesAs : (Yard → Placement → Outcome) → (table p standing out : List ℕ) → Tally → (p' standing' empty' out' : List ℕ) → Staged → Type 0

@@ -1,2 +1,3 @@
 pub mod Homing
 pub mod FromBelow
+pub mod Staged

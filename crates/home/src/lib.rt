@@ -4,17 +4,10 @@
 ghost use Rattle.acting.specs.Acting.{Ready};
 ghost use Rattle.home.specs.Homing.{HomeAsks, HomeSays};
 
-use acting::{Tally, Tried};
+use acting::Tally;
 use docket::{Bay, Carrier};
 use go::step;
 use go::step::NextStep;
-
-// The tally of what was made, or the carrier that could not step.
-#[derive(Clone, Copy)]
-pub enum Staged {
-    Planned(Tally),
-    Stuck(Carrier),
-}
 
 // The way home has come to this bay. The carriers below `finished` are finished.
 #[derive(Clone, Copy)]
@@ -33,7 +26,7 @@ pub fn home_at(
     empty: &mut [u64],
     settled: &mut [u64],
     out: &mut [u64],
-) -> Staged
+) -> Result<Tally, Carrier>
     requires ready { Ready table.now placement.old standing.old empty.old }
     requires home_asks { HomeAsks home owner.now table.now placement.old standing.old settled.old }
     ensures { HomeSays home owner.now table.now placement.old standing.old out.old
@@ -45,10 +38,10 @@ pub fn home_at(
     let bay = v.0 as usize;
     let c = owner[bay] as usize;
     if finished <= c {
-        return Staged::Planned(at);
+        return Ok(at);
     }
     if placement[c] == v.0 {
-        return Staged::Planned(at);
+        return Ok(at);
     }
     let f = Carrier(c as u32);
     let next = NextStep {
@@ -57,8 +50,8 @@ pub fn home_at(
         to: v,
     };
     let one = step::step(table, next, placement, standing, empty, settled, out);
-    let Tried::Done(done) = one else {
-        return Staged::Stuck(f);
+    let Some(done) = one else {
+        return Err(f);
     };
-    Staged::Planned(done)
+    Ok(done)
 }

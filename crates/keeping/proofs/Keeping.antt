@@ -1,6 +1,7 @@
 -- What is kept and held does not change while the others are passed over, and a failed vacate changes nothing: so the first that can
 -- be vacated is the one that the paper keeps next.
 -- Assumes nothing.
+use Rattle.std.proofs.Common.{None, Some}
 use mathlib.Core.Path.{◌≡◌, ◌∙◌, ap, refl}
 use mathlib.Core.Bool.{Bool, true, false}
 use mathlib.Core.List.{List, [], ◌∷◌, ◌++◌}
@@ -21,7 +22,6 @@ use Rattle.moving.specs.Placed.{Placed, Unchanged}
 use Rattle.docket.specs.declared.Bay.{Bay as Numbered}
 use Rattle.acting.specs.Acting.{nothing, Added, Tallied, Acts}
 use Rattle.acting.specs.declared.Tally.{Tally}
-use Rattle.acting.specs.declared.Tried.TheVariants.{Done, Failed}
 use Rattle.acting.proofs.Acting.{tallied-none, acted-done, acted-failed}
 use Rattle.acting.proofs.Lending.{RestLent, on-the-rest}
 use Rattle.keeping.specs.Keeping.{Stuck, KeepsOne, KeepsNone, TwoBy, KeptAlone, Clears, After, from}
@@ -29,7 +29,7 @@ use Rattle.keeping.specs.declared.Two.{Two}
 use Rattle.keeping.specs.declared.Two.TheVariants.{Both, Single, Short}
 
 pub same-again : {p standing empty out p' standing' empty' out' p'' standing'' empty'' out'' : List ℕ} {o : Option Made} {n : ℕ} {at : Tally}
-    → Unchanged p standing empty out p' standing' empty' out' → Acts o n p' standing' empty' out' at p'' standing'' empty'' out'' Failed → Unchanged p standing empty out p'' standing'' empty'' out''
+    → Unchanged p standing empty out p' standing' empty' out' → Acts o n p' standing' empty' out' at p'' standing'' empty'' out'' None → Unchanged p standing empty out p'' standing'' empty'' out''
 same-again s a =
     let u = (a.fails (acted-failed a)).1 in
     record { same_placement = u.same_placement ∙ s.same_placement; same_standing = u.same_standing ∙ s.same_standing; same_empty = u.same_empty ∙ s.same_empty; same_list = u.same_list ∙ s.same_list }
@@ -53,7 +53,7 @@ stuck-more Y held others a x x' p s e l y h k m = elim (dec_lt y x) [
 
 pub keeps_here : {Y : Yard} {held : List Bay} {others : List ℕ} {a x n : ℕ} {p standing empty out q standing₁ empty₁ out₁ p' standing' empty' out' : List ℕ} {m : Tally}
     → a ≤ x → x < n → mem others x ≡ true → Stuck Y held others a x p → Unchanged p standing empty out q standing₁ empty₁ out₁
-    → Acts (vacate Y held x q) n q standing₁ empty₁ out₁ nothing p' standing' empty' out' (Done m) → KeepsOne Y held others a n p out p' standing' empty' out' x m
+    → Acts (vacate Y held x q) n q standing₁ empty₁ out₁ nothing p' standing' empty' out' (Some m) → KeepsOne Y held others a n p out p' standing' empty' out' x m
 keeps_here h k o s same acts =
     let d = acted-done (rw (same.same_placement, same.same_list) at acts) in
     record {

@@ -1,6 +1,6 @@
 -- The bays kept, one and then two, with what was played for them.
 -- Assumes nothing.
-use Rattle.std.specs.Prelude.{◌≡◌, Bool, true, List, [], ◌∷◌, ℕ, ◌≤◌, ◌<◌, ◌-◌, length}
+use Rattle.std.specs.Prelude.{◌≡◌, Bool, true, List, [], ◌∷◌, ℕ, ◌≤◌, ◌<◌, ◌-◌, length, None, Some}
 use Rattle.std.proofs.Math.Option.{none, some}
 use Rattle.paper.specs.Basics.{filter, count_from, Out}
 use Rattle.paper.specs.Procedure.{Made, only, vacate, Cleared, clearing}
@@ -11,8 +11,7 @@ use Rattle.moving.specs.Bounds.{vacate_most}
 use Rattle.acting.specs.Acting.{Tabled, HoldsTwo, nothing, Added, Tallied}
 use Rattle.acting.specs.declared.Tally.{Tally}
 use Rattle.keeping.specs.declared.First.{First}
-use Rattle.keeping.specs.declared.Kept.{Kept}
-use Rattle.keeping.specs.declared.Kept.TheVariants.{One, Nothing}
+use Rattle.keeping.specs.Kept.{Kept}
 use Rattle.keeping.specs.declared.Two.{Two}
 use Rattle.keeping.specs.declared.Two.TheVariants.{Both, Single, Short}
 use Rattle.docket.specs.declared.Bay.{Bay as Numbered}
@@ -25,8 +24,8 @@ pub record Among (n : ℕ) (ws : List ℕ) : Type 0 where
 
 -- the bay is small, and not too many crossings were made
 abbrev pub KeptBy : Kept → Type 0
-KeptBy (One x m) = (x.0 < span) × (m.crossings ≤ vacate_most)
-KeptBy Nothing = Unit {0}
+KeptBy (Some (x, m)) = (x.0 < span) × (m.crossings ≤ vacate_most)
+KeptBy None = Unit {0}
 
 -- none of the others from a on and below x can be vacated
 abbrev pub Stuck : Yard → List Bay → List ℕ → ℕ → ℕ → Placement → Type 0
@@ -48,8 +47,8 @@ pub record KeepsNone (Y : Yard) (held : List Bay) (others : List ℕ) (a n : ℕ
   pub played : Tallied (only []) n p p' standing' empty' out nothing out' nothing
 
 abbrev pub Keeps : Yard → List Bay → (others : List ℕ) → ℕ → ℕ → (p out p' standing' empty' out' : List ℕ) → Kept → Type 0
-Keeps Y held others a n p out p' standing' empty' out' (One x m) = KeepsOne Y held others a n p out p' standing' empty' out' x.0 m
-Keeps Y held others a n p out p' standing' empty' out' Nothing = KeepsNone Y held others a n p out p' standing' empty' out'
+Keeps Y held others a n p out p' standing' empty' out' (Some (x, m)) = KeepsOne Y held others a n p out p' standing' empty' out' x.0 m
+Keeps Y held others a n p out p' standing' empty' out' None = KeepsNone Y held others a n p out p' standing' empty' out'
 
 -- ## Two bays
 

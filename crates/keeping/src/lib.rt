@@ -4,15 +4,8 @@
 ghost use Rattle.acting.specs.Acting.{Ready};
 ghost use Rattle.keeping.specs.Keeping.{After, AfterAsks, KeepAsks, KeepSays, KeepSecondAsks, KeepSecondSays};
 
-use acting::{Tally, Tried};
+use acting::Tally;
 use docket::Bay;
-
-// One more bay that is kept, with what was made for it.
-#[derive(Clone, Copy)]
-pub enum Kept {
-    One(Bay, Tally),
-    Nothing,
-}
 
 // The two bays that are kept, or the only one, with what was made for them; or none is.
 #[derive(Clone, Copy)]
@@ -51,7 +44,7 @@ pub fn keep_one(
     standing: &mut [u16],
     empty: &mut [u64],
     out: &mut [u64],
-) -> Kept
+) -> Option<(Bay, Tally)>
     requires ready { Ready table.now placement.old standing.old empty.old }
     requires keep_asks { KeepAsks table.now others.now held.now from standing.old }
     ensures { KeepSays table.now others.now held.now from
@@ -62,16 +55,16 @@ pub fn keep_one(
     while x < words::SPAN {
         let bay = Bay(x as u16);
         let vacated = acting::make_room(table, held, bay, placement, standing, empty, out);
-        if let Tried::Done(done) = vacated {
+        if let Some(done) = vacated {
             let made = Tally {
                 crossings: done.crossings,
                 parked: done.parked,
             };
-            return Kept::One(bay, made);
+            return Some((bay, made));
         }
         x = words::next_from(others, x + 1);
     }
-    Kept::Nothing
+    None
 }
 
 // With one bay kept, one of the others is kept too, if one can be vacated.
@@ -96,7 +89,7 @@ pub fn keep_second(
     let second = keep_one(
         table, others, held, first.from, placement, standing, empty, out,
     );
-    let Kept::One(y, m) = second else {
+    let Some((y, m)) = second else {
         return Two::Single(x, acting::NOTHING);
     };
     Two::Both(x, y, m)

@@ -17,16 +17,6 @@ use Rattle.yard.specs.Table.{Table}
 use Rattle.choice.specs.Taking.{rails}
 use Rattle.choice.proofs.Counting.{table-rails}
 
--- the bays below v have two rails each
-pub record TwoBelow (table : List ℕ) (v : ℕ) : Type 0 where
-  pub two : (a : ℕ) → a < v → rails table a ≡ 2
-
-pub two_none : (table : List ℕ) → TwoBelow table 0
-two_none table = record { two = λ a h. absurd (omega arith) }
-
-pub two-more : {table : List ℕ} {v : ℕ} → TwoBelow table v → rails table v ≡ 2 → TwoBelow table (v + 1)
-two-more {table} {v} t e = record { two = λ a h. elim (ℕ_discrete a v) [ yes q ↦ rw q e | no q ↦ t.two a (omega arith) ] }
-
 module _ (Y : Yard) {n : ℕ} {table : List ℕ} (t : Table Y n table) (most : n ≤ span) where
   pub not-carousel : (v : ℕ) → v < n → (rails table v ≡ 2 → ⊥) → false ≡ carousel Y
   unfolding carousel
@@ -34,12 +24,12 @@ module _ (Y : Yard) {n : ℕ} {table : List ℕ} (t : Table Y n table) (most : n
       let other : not (eqb (rails_at Y v) 2) ≡ true = ap not (ne_eqb (rails_at Y v) 2 (λ e. ne (table-rails t most v h ∙ e))) in
       sym (ap not (any_of (λ w. not (eqb (rails_at Y w) 2)) (up_to Y.bays) v (in_count 0 Y.bays v (omega arith) (omega (arith, t.bays))) other))
 
-  pub is_one : TwoBelow table n → true ≡ carousel Y
+  pub is_one : ((a : ℕ) → a < n → rails table a ≡ 2) → true ≡ carousel Y
   unfolding carousel
   is_one two =
       by_cases (any (λ w. not (eqb (rails_at Y w) 2)) (up_to Y.bays))
       (λ e.
       let w = any_some (λ w. not (eqb (rails_at Y w) 2)) (up_to Y.bays) e in
       let h : w.0 < n = let k = count-high 0 Y.bays w.0 w.1 in omega (arith, t.bays) in
-      not-both (eq-eqb (rails_at Y w.0) 2 (sym (table-rails t most w.0 h) ∙ two.two w.0 h)) (not-true (eqb (rails_at Y w.0) 2) w.2))
+      not-both (eq-eqb (rails_at Y w.0) 2 (sym (table-rails t most w.0 h) ∙ two w.0 h)) (not-true (eqb (rails_at Y w.0) 2) w.2))
       (λ e. sym (ap not e))

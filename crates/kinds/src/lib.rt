@@ -11,12 +11,10 @@ pub fn is_carousel(table: &[u64], n: usize) -> bool
     requires { (n ≤ span) × (n * words ≤ length table.now) }
     ensures { (Y : Yard) → Table Y n table.now → result ≡ carousel Y }
 {
-    let mut v = 0;
-    while v < n {
+    for v in 0..n {
         if choice::count_rails(table, v) != 2 {
             return false;
         }
-        v += 1;
     }
     true
 }

@@ -6,11 +6,11 @@ ghost use Rattle.gridmap.specs.Cells.{rails_in};
 ghost use Rattle.docket.specs.Reading.{verdict_of};
 ghost use Rattle.laying.specs.Laying.{laid, MapSays};
 
-use docket::{Refusal, Verdict};
+use docket::Refusal;
 use gridmap::Grid;
 
 // The bays and rails of a map whose cells are numbered.
-pub fn lay(grid: Grid, cells: &[u16], bays: &mut u64, rails: &mut [u16]) -> Verdict
+pub fn lay(grid: Grid, cells: &[u16], bays: &mut u64, rails: &mut [u16]) -> Result<u64, Refusal>
     ensures { MapSays (laid grid.bays (rails_in cells.now grid.height grid.width)) rails.old (verdict_of result)
         bays.new rails.new }
 {
@@ -18,9 +18,9 @@ pub fn lay(grid: Grid, cells: &[u16], bays: &mut u64, rails: &mut [u16]) -> Verd
     let needed = gridmap::rails(grid, cells, &mut nothing);
     if rails.len() < needed {
         *bays = 0;
-        return Verdict::Denied(Refusal::Room(needed as u64));
+        return Err(Refusal::Room(needed as u64));
     }
     let written = gridmap::rails(grid, cells, rails);
     *bays = grid.bays as u64;
-    Verdict::Granted(written as u64)
+    Ok(written as u64)
 }

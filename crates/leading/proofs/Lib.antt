@@ -1,3 +1,2 @@
 pub mod Leading
 mod Passing
-mod Handing

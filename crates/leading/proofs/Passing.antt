@@ -12,13 +12,8 @@ use lib.Seq.{drop-cons}
 use Rattle.paper.proofs.Tests.{by_cases}
 use Rattle.leading.specs.Leading.{equal_leading}
 
-pub record Passing (first second : List ℕ) (i : ℕ) : Type 0 where
-  pub in-first : i ≤ length first
-  pub in-second : i ≤ length second
-  pub whole : equal_leading first second ≡ i + equal_leading (drop i first) (drop i second)
-
-pub passing-start : (first second : List ℕ) → Passing first second 0
-passing-start first second = record { in-first = omega arith; in-second = omega arith; whole = omega arith }
+abbrev pub Passing : List ℕ → List ℕ → ℕ → Type 0
+Passing first second i = equal_leading first second ≡ i + equal_leading (drop i first) (drop i second)
 
 leading-cons : (x y : ℕ) (xs ys : List ℕ) → equal_leading (x ∷ xs) (y ∷ ys) ≡ (if eqb x y then suc (equal_leading xs ys) else zero)
 unfolding equal_leading
@@ -40,20 +35,20 @@ module _ (first second : List ℕ) (i : ℕ) (p : Passing first second i) where
     pub passing-stops : (get_or first i 0 ≡ get_or second i 0 → ⊥) → i ≡ equal_leading first second
     passing-stops d =
         let t : equal_leading (drop i first) (drop i second) ≡ 0 = turn ∙ rw (ne_eqb (get_or first i 0) (get_or second i 0) d) in
-        omega (arith, t, p.whole)
+        omega (arith, t, p)
 
     pub passing-on : get_or first i 0 ≡ get_or second i 0 → Passing first second (i + 1)
     passing-on e =
         let t : equal_leading (drop i first) (drop i second) ≡ suc (equal_leading (drop (i + 1) first) (drop (i + 1) second)) = turn ∙ rw (eq-eqb (get_or first i 0) (get_or second i 0) e) in
-        record { in-first = omega arith; in-second = omega arith; whole = omega (arith, t, p.whole) }
+        omega (arith, t, p)
 
   pub passing-ends : min (length first) (length second) ≤ i → i ≡ equal_leading first second
   unfolding equal_leading
   passing-ends h =
       by_cases (leb (length first) i)
-      (λ l. let t : equal_leading (drop i first) (drop i second) ≡ 0 = rw (drop_of_length-le first (leb-true _ _ l)) in omega (arith, t, p.whole))
+      (λ l. let t : equal_leading (drop i first) (drop i second) ≡ 0 = rw (drop_of_length-le first (leb-true _ _ l)) in omega (arith, t, p))
       (λ l.
       let f : i < length first = leb-false _ _ l in
       let s : length second ≤ i = omega arith in
       let t : equal_leading (drop i first) (drop i second) ≡ 0 = ap (equal_leading (drop i first)) (drop_of_length-le second s) ∙ leading-none (drop i first) in
-      omega (arith, t, p.whole))
+      omega (arith, t, p))

@@ -5,7 +5,8 @@ ghost use Rattle.std.specs.Prelude.{◌≤◌, length};
 ghost use Rattle.outcome.specs.FromBelow.{Admitted};
 ghost use Rattle.outcome.specs.Handing.{HandsOut, HandsOutKept, HandsOutDue};
 
-use outcome::{Counted, Handed, play};
+use docket::Refusal;
+use outcome::{Handed, play};
 use yard::Yard;
 
 // Crossings that the least room holds.
@@ -36,13 +37,13 @@ fn hand_out_again_by_rails(
     m: usize,
     parked: usize,
     out: &mut [u64],
-) -> Counted
+) -> Result<(u64, u64), Refusal>
     requires admitted { Admitted n table.now start.now goal.now }
     requires m_in_bounds { m ≤ length out.old }
     ensures { HandsOutDue n table.now start.now goal.now m parked out.old result out.new }
 {
-    play::play_by_rails(table, n, start, goal, &mut out[..m]);
-    Counted::Accepted(m as u64, parked as u64)
+    let _ = play::play_by_rails(table, n, start, goal, &mut out[..m]);
+    Ok((m as u64, parked as u64))
 }
 
 // With the least room, and played again where the plan is longer than that.
@@ -52,7 +53,7 @@ pub fn hand_out_lean(
     start: &[u16],
     goal: &[u16],
     out: &mut [u64],
-) -> Counted
+) -> Result<(u64, u64), Refusal>
     requires { Admitted n table.now start.now goal.now }
     ensures { HandsOut n table.now start.now goal.now out.old result out.new }
 {

@@ -5,7 +5,7 @@ use Prim.Native.Nat.{ℕ}
 use Rattle.paper.specs.Order.{Order}
 use Rattle.paper.proofs.Determined.{Determined, telling-by}
 use Rattle.docket.proofs.Telling.{refusal_for, refusal-back}
-use Rattle.checker.specs.declared.Checked.{Checked}
+use Rattle.checker.specs.Checked.{Checked}
 use Rattle.checker.proofs.Back.{checks-told-apart}
 use Rattle.marks.specs.declared.Reported.{Reported}
 use Rattle.marks.proofs.Back.{reports-told-apart}

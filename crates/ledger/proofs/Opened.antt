@@ -1,4 +1,5 @@
 -- What opening leaves, way out by way out, and what follows for lines that are lent.
+use Rattle.std.proofs.Common.{Err, Ok}
 use mathlib.Core.Path.{◌≡◌, sym, ◌∙◌, ap, ap₂}
 use mathlib.Core.List.{List, [], ◌++◌, append-nil}
 use mathlib.Core.Option.{none, some}
@@ -15,7 +16,6 @@ use Rattle.paper.proofs.Tests.{by-option, none_both, none-when, never-some}
 use Rattle.docket.specs.Reading.{refusal_of}
 use Rattle.docket.specs.declared.Refusal.{Refusal}
 use Rattle.docket.specs.declared.Refusal.TheVariants.{Room}
-use Rattle.checker.specs.declared.Checked.TheVariants as checked
 use Rattle.bills.specs.Billing.{record_of, lines_of}
 use Rattle.bills.specs.Answering.{up_to_eleven, opening, opened_record, opened_lines}
 use Rattle.bills.specs.declared.Line.{Line}
@@ -31,7 +31,7 @@ use Rattle.agreeing.proofs.Refusing.{fit_of}
 
 module _ (o : Order) (plan marks : List ℕ) (rec : Record) (count : ℕ) where
   pub open-refused : (r : Refusal) (held : HeldLines) → held ≡ held_of 0 no_lines → some (refusal_of r) ≡ opening o plan marks count
-      → OpenSays o plan marks rec count (record { answer = checked.Refused r; running = rec; held = held })
+      → OpenSays o plan marks rec count (record { answer = Err r; running = rec; held = held })
   unfolding opened_record laid
   open-refused r held e h = record { answers = h; leaves = rw (← h); holds = e ∙ rw (← h) }
 
@@ -46,7 +46,7 @@ module _ (o : Order) (plan marks : List ℕ) (rec : Record) (count : ℕ) where
 
     pub open-written : count ≡ length o.starts → (running : Record) → running ≡ record_of o.starts (crossings plan) marks
         → (held : HeldLines) → held ≡ gathered (lines_of count (crossings plan) marks)
-        → OpenSays o plan marks rec count (record { answer = checked.Passed; running = running; held = held })
+        → OpenSays o plan marks rec count (record { answer = (Ok tt); running = running; held = held })
     unfolding opening opened_record
     open-written k running er held eh =
         let free = eq-eqb count (length o.starts) k in

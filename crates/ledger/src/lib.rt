@@ -9,7 +9,6 @@ ghost use Rattle.held_lines.specs.Lines.{lines_held};
 ghost use Rattle.ledger.specs.Statements.{agreement_of, OpenSays, BillingSays};
 
 use bills::Record;
-use checker::Checked;
 use docket::Refusal;
 use held_lines::HeldLines;
 use marks::Reported;
@@ -44,7 +43,7 @@ pub fn compare(
         plan.now marks.now accounts.running (lines_held accounts.held) }
 {
     let checked = agreeing::up_to_eleven(bays, rails, start, goal, plan, marks);
-    if let Checked::Refused(r) = checked {
+    if let Err(r) = checked {
         return Agreement::Refused(r);
     }
     let agreed = agreeing::agree(start, plan, marks, 0, accounts.running, accounts.held);
@@ -57,7 +56,7 @@ pub fn compare(
 // What opening answers, and the record and the lines to be kept: where it is refused, the record as it was and no line.
 #[derive(Clone, Copy)]
 pub struct Opening {
-    pub answer: Checked,
+    pub answer: Result<(), Refusal>,
     pub running: Record,
     pub held: HeldLines,
 }
@@ -77,16 +76,16 @@ pub fn open(
         plan.now marks.now running count result }
 {
     let checked = agreeing::up_to_eleven(bays, rails, start, goal, plan, marks);
-    if let Checked::Refused(r) = checked {
+    if let Err(r) = checked {
         return Opening {
-            answer: Checked::Refused(r),
+            answer: Err(r),
             running: running,
             held: held_lines::hold(0, held_lines::no_lines()),
         };
     }
     if count != start.len() {
         return Opening {
-            answer: Checked::Refused(Refusal::Room(start.len() as u64)),
+            answer: Err(Refusal::Room(start.len() as u64)),
             running: running,
             held: held_lines::hold(0, held_lines::no_lines()),
         };
@@ -95,7 +94,7 @@ pub fn open(
     let kept = fresh.running;
     let held = fresh.held;
     Opening {
-        answer: Checked::Passed,
+        answer: Ok(()),
         running: kept,
         held: held,
     }
@@ -116,7 +115,7 @@ pub fn report(
         plan.now marks.old name accounts.running accounts.held result marks.new }
 {
     let checked = agreeing::up_to_eleven(bays, rails, start, goal, plan, marks);
-    if let Checked::Refused(r) = checked {
+    if let Err(r) = checked {
         return settling::unchanged(Reported::Refused(r), accounts.running, accounts.held);
     }
     let agreed = agreeing::agree(

@@ -4,7 +4,7 @@ use mathlib.Core.Bool.{Bool, true, false}
 use mathlib.Core.List.{List}
 use Prim.Native.Nat.{ℕ, zero, suc, ◌+◌, ◌*◌, ◌/◌, ◌≤◌, ◌<◌}
 use native.Mathlib.Decide.{ℕ_discrete}
-use native.Mathlib.Nat.{le_of_mul-le-mul_right, mul-le-mul_left, mul-le-mul_right}
+use native.Mathlib.Nat.{le-div_iff_mul-le, le_of_mul-le-mul_right, mul-le-mul_right}
 use native.Mathlib.Omega.{arith}
 use lib.ListN.{length, take, drop}
 use lib.Seq.{get_or-take, get_or-drop, length-take-le}
@@ -12,7 +12,7 @@ use Rattle.paper.specs.Basics.{◌and◌, ◌or◌}
 use Rattle.words.specs.Sets.{mem, mem_row, words, span, any_below, Kept, Beside}
 use Rattle.words.proofs.Sets.{mem-row, zeros, mem-zeros}
 use Rattle.levels.specs.Levels.{Levelled}
-use Rattle.levels.specs.Raising.{Rails, above, RowRaised, LevelRaised, Raised}
+use Rattle.levels.specs.Raising.{Rails, above, RowRaised, LevelRaised, Raised, RaiseSays}
 
 -- ---- parts of a table
 
@@ -120,18 +120,21 @@ module _ (n j : ℕ) (table : List ℕ) where
 
 -- ---- level after level
 
--- there are no more levels than words
-pub levels-few : (n m : ℕ) → 0 < n → m ≤ m * n * words
-levels-few n m h = let l : m * 1 ≤ m * n = mul-le-mul_left m (omega arith) in omega arith
+-- there is a level, and so many fit in a table of that length
+pub some-levels : (n len : ℕ) → 0 < n → n * words ≤ len → 1 ≤ len / (n * words)
+some-levels n len h l = (le-div_iff_mul-le {k = n * words} (omega arith)).1 (omega arith)
+
+pub levels-fit : (n m len : ℕ) → 0 < n → m ≤ len / (n * words) → m * n * words ≤ len
+levels-fit n m len h l = let k : m * (n * words) ≤ len = (le-div_iff_mul-le {k = n * words} (omega arith)).0 l in omega arith
 
 module _ (n : ℕ) (table : List ℕ) where
   pub raised-begun : Raised n 1 table table
   raised-begun = record { rises = λ j x b l hx hb. absurd (omega arith); rails = λ x b hx hb. refl }
 
   module _ (inside : Rails n table) where
-    pub raised-more : (j : ℕ) (table' table'' : List ℕ) → Raised n (j + 1) table table' → LevelRaised n j n table' table''
-        → Raised n (j + 1 + 1) table table''
-    raised-more j table' table'' s r =
+    pub raised-more : (m j : ℕ) (table' table'' : List ℕ) → m ≡ j + 1 → Raised n m table table' → LevelRaised n j n table' table''
+        → Raised n (m + 1) table table''
+    raised-more m j table' table'' e s r =
         let here : Rails n table' = rails-kept n j table inside table' s.rails in
         record {
           rises = λ i x b l hx hb. elim (ℕ_discrete i j) [
@@ -150,7 +153,7 @@ module _ (n : ℕ) (table : List ℕ) where
     raised-fewer m table' s = record { rises = λ j x b l hx hb. s.rises j x b (omega arith) hx hb; rails = s.rails }
 
     -- what was filled is levelled, however the table goes on
-    pub levelled : (m : ℕ) (table' : List ℕ) → 0 < n → m * n * words ≤ length table' → Raised n m table table'
+    levelled : (m : ℕ) (table' : List ℕ) → 0 < n → m * n * words ≤ length table' → Raised n m table table'
         → Levelled n (take (m * n * words) table')
     levelled m table' some l s =
         let size : length (take (m * n * words) table') ≡ m * n * words = length-take-le (m * n * words) table' l in
@@ -164,3 +167,9 @@ module _ (n : ℕ) (table : List ℕ) where
               ∙ sym (above_kept n j table' here (take (m * n * words) table')
               (λ e c d h. row-take table' (m * n * words) e c (omega arith) h) x b hx hb);
         }
+
+    pub raise-says : (m : ℕ) (table' : List ℕ) → 0 < n → length table' ≡ length table → 1 ≤ m → m ≤ length table / (n * words)
+        → Raised n m table table' → RaiseSays n table table' m
+    raise-says m table' some kept l most s =
+        let room : m * n * words ≤ length table' = rw kept (levels-fit n m (length table) some most) in
+        record { some_level = l; room = room; levelled = levelled m table' some room s; same_rails = s.rails }

@@ -26,10 +26,8 @@ fn raise_level(n: usize, table: &mut [u64], j: usize)
     requires { RaiseLevelAsks n table.old j }
     ensures { LevelRaised n j n table.old table.new }
 {
-    let mut x = 0;
-    while x < n {
+    for x in 0..n {
         raise_row(n, table, j, x);
-        x += 1;
     }
 }
 
@@ -38,14 +36,7 @@ fn stands_twice(table: &[u64], at: usize, size: usize) -> bool
     requires { at + size + size ≤ length table.now }
     ensures { result ≡ true → (i : ℕ) → i < size → get_or table.now (at + size + i) 0 ≡ get_or table.now (at + i) 0 }
 {
-    let mut i = 0;
-    while i < size {
-        if table[at + size + i] != table[at + i] {
-            return false;
-        }
-        i += 1;
-    }
-    true
+    table[at..at + size] == table[at + size..at + size + size]
 }
 
 // Fills level after level above the rails, as far as the table goes or until a level adds nothing; answers how many levels there are.
@@ -53,13 +44,12 @@ pub fn raise(n: usize, table: &mut [u64]) -> usize
     requires { RaiseAsks n table.old }
     ensures { RaiseSays n table.old table.new result }
 {
-    let mut top = 0;
-    while n * WORDS <= table.len() - (top + 1) * n * WORDS {
-        raise_level(n, table, top);
-        if stands_twice(table, top * n * WORDS, n * WORDS) {
-            return top + 1;
+    let most = table.len() / (n * WORDS);
+    for top in 1..most {
+        raise_level(n, table, top - 1);
+        if stands_twice(table, (top - 1) * n * WORDS, n * WORDS) {
+            return top;
         }
-        top += 1;
     }
-    top + 1
+    most
 }

@@ -14,12 +14,6 @@ const SMALL: usize = 24;
 // More than any yard has.
 const MANY: usize = Yard::BAYS + 1;
 
-fn one_if(test: bool) -> usize
-    ensures { result ≤ 1 }
-{
-    if test { 1 } else { 0 }
-}
-
 // How many junctions a yard has, if no bay has more than three rails: then it is a line with sidings, a comb, a ring. Else MANY, as in a small yard, where nobody asks.
 pub fn junctions_if_thin(table: &[u64; Yard::TABLE], yard: Yard) -> usize
     ensures { result ≤ most_bays + 1 }
@@ -35,14 +29,12 @@ pub fn junctions_if_thin(table: &[u64; Yard::TABLE], yard: Yard) -> usize
         return MANY;
     }
     let mut junctions = 0;
-    let mut a = 0;
-    while a < n {
+    for a in 0..n {
         let rails = choice::count_rails(table, a);
         if 3 < rails {
             return MANY;
         }
-        junctions += one_if(rails == 3);
-        a += 1;
+        junctions += usize::from(rails == 3);
     }
     junctions
 }

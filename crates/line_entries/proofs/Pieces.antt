@@ -1,4 +1,5 @@
 -- An action's words are the pieces between spaces, and they are cut off one by one; what the words say is what the paper reads.
+use Rattle.std.proofs.Common.{None, Some}
 use Rattle.std.specs.Prelude.{if◌then◌else◌}
 use mathlib.Core.Path.{◌≡◌, refl, sym, ◌∙◌, ap}
 use mathlib.Core.Bool.{true, false}
@@ -22,8 +23,7 @@ use Rattle.paper.proofs.Stepping.{split-some}
 use Rattle.line_entries.specs.Entries.{most_carrier, most_bay, fits, entry_of, plan_entry}
 use Rattle.line_entries.specs.Steps.{capped, Cut, to_entry, left, from_entry, moved, carrier_entry, words_entry}
 use Rattle.line_entries.specs.declared.Entry.TheVariants.{Number, Comment, Broken}
-use Rattle.line_entries.specs.declared.Figure.{Figure}
-use Rattle.line_entries.specs.declared.Figure.TheVariants.{Spells, Nothing}
+use Rattle.line_entries.specs.Figure.{Figure}
 use Rattle.line_entries.proofs.Numbers.{rest, rest-is}
 
 -- ## Cutting
@@ -78,29 +78,29 @@ module _ (l : Text) (p : ℕ) (c : Cut SPACE l p) where
     to-more h = let w = two-words h in rw w.2
 
     module _ (h : length l ≤ p) where
-      pub to-no : Nothing ≡ capped most_bay (number_after 98 l) → Broken ≡ to_entry carrier from (split SPACE l)
+      pub to-no : None ≡ capped most_bay (number_after 98 l) → Broken ≡ to_entry carrier from (split SPACE l)
       to-no e = rw (c.whole h, ← e)
 
-      pub to-yes : (b : ℕ) → Spells b ≡ capped most_bay (number_after 98 l) → Number (pack (crossing carrier from b)) ≡ to_entry carrier from (split SPACE l)
+      pub to-yes : (b : ℕ) → Some b ≡ capped most_bay (number_after 98 l) → Number (pack (crossing carrier from b)) ≡ to_entry carrier from (split SPACE l)
       to-yes b e = rw (c.whole h, ← e)
 
   module _ (carrier : ℕ) where
     pub from-short : length l ≤ p → Broken ≡ from_entry carrier (split SPACE l)
     from-short h = rw (c.whole h)
 
-    pub from-no : p < length l → Nothing ≡ capped most_bay (number_after 98 (take p l)) → Broken ≡ from_entry carrier (split SPACE l)
+    pub from-no : p < length l → None ≡ capped most_bay (number_after 98 (take p l)) → Broken ≡ from_entry carrier (split SPACE l)
     from-no h e = let w = two-words h in rw (w.2, ← e)
 
-    pub from-yes : p < length l → (a : ℕ) → Spells a ≡ capped most_bay (number_after 98 (take p l)) → to_entry carrier a (split SPACE (rest l (p + 1))) ≡ from_entry carrier (split SPACE l)
+    pub from-yes : p < length l → (a : ℕ) → Some a ≡ capped most_bay (number_after 98 (take p l)) → to_entry carrier a (split SPACE (rest l (p + 1))) ≡ from_entry carrier (split SPACE l)
     from-yes h a e = let w = two-words h in rw (w.2, w.3, ← e)
 
   pub carrier-short : length l ≤ p → Broken ≡ carrier_entry (split SPACE l)
   carrier-short h = rw (c.whole h)
 
-  pub carrier-no : p < length l → Nothing ≡ capped most_carrier (number_after 99 (take p l)) → Broken ≡ carrier_entry (split SPACE l)
+  pub carrier-no : p < length l → None ≡ capped most_carrier (number_after 99 (take p l)) → Broken ≡ carrier_entry (split SPACE l)
   carrier-no h e = let w = two-words h in rw (w.2, ← e)
 
-  pub carrier-yes : p < length l → (a : ℕ) → Spells a ≡ capped most_carrier (number_after 99 (take p l)) → from_entry a (split SPACE (rest l (p + 1))) ≡ carrier_entry (split SPACE l)
+  pub carrier-yes : p < length l → (a : ℕ) → Some a ≡ capped most_carrier (number_after 99 (take p l)) → from_entry a (split SPACE (rest l (p + 1))) ≡ carrier_entry (split SPACE l)
   carrier-yes h a e = let w = two-words h in rw (w.2, w.3, ← e)
 
   pub words-short : length l ≤ p → Broken ≡ words_entry (split SPACE l)
@@ -140,16 +140,16 @@ unfolding entry_of
 entry-none = refl
 
 few : (a : Text) (f : Figure) → moved f (a ∷ []) ≡ Broken
-few a Nothing = refl
-few a (Spells x) = refl
+few a None = refl
+few a (Some x) = refl
 
 more_left : (b d : Text) (ws : List Text) (x : ℕ) (g : Figure) → left x g (b ∷ d ∷ ws) ≡ Broken
-more_left b d ws x Nothing = refl
-more_left b d ws x (Spells y) = refl
+more_left b d ws x None = refl
+more_left b d ws x (Some y) = refl
 
 many : (a b d : Text) (ws : List Text) (f : Figure) → moved f (a ∷ b ∷ d ∷ ws) ≡ Broken
-many a b d ws Nothing = refl
-many a b d ws (Spells x) = more_left b d ws x (capped most_bay (number_after 98 a))
+many a b d ws None = refl
+many a b d ws (Some x) = more_left b d ws x (capped most_bay (number_after 98 a))
 
 words-as : (ws : List Text) → words_entry ws ≡ entry_of (if_four ws)
 unfolding ◌and◌

@@ -1,6 +1,6 @@
 -- What each function makes of its part of a line.
 -- Assumes nothing.
-use Rattle.std.specs.Prelude.{Bool, true, false, List, [], ◌∷◌, ◌≡◌, ℕ, ◌+◌, ◌-◌, ◌*◌, ◌≤◌, ◌<◌, leb, length, take, drop, if◌then◌else◌}
+use Rattle.std.specs.Prelude.{Bool, true, false, List, [], ◌∷◌, ◌≡◌, ℕ, ◌+◌, ◌-◌, ◌*◌, ◌≤◌, ◌<◌, leb, length, take, drop, if◌then◌else◌, None, Some}
 use Rattle.std.proofs.Math.Option.{Option, none, some}
 use Rattle.paper.specs.Basics.{◌and◌}
 use Rattle.paper.specs.Yard.{crossing, pack}
@@ -9,14 +9,13 @@ use Rattle.paper.specs.Print.{number_after}
 use Rattle.line_entries.specs.Entries.{most_carrier, most_bay}
 use Rattle.line_entries.specs.declared.Entry.{Entry}
 use Rattle.line_entries.specs.declared.Entry.TheVariants.{Number, Broken}
-use Rattle.line_entries.specs.declared.Figure.{Figure}
-use Rattle.line_entries.specs.declared.Figure.TheVariants.{Spells, Nothing}
+use Rattle.line_entries.specs.Figure.{Figure}
 
 -- ## Numbers
 
 abbrev pub figure : Bool → ℕ → Figure
-figure true n = Spells n
-figure false n = Nothing
+figure true n = Some n
+figure false n = None
 
 -- one digit more, and not over the most
 unfoldable pub digit_on : ℕ → ℕ → ℕ → Figure
@@ -24,7 +23,7 @@ digit_on most n b = figure (is_digit b and leb (n * 10 + (b - 48)) most) (n * 10
 
 -- a number that is not over the most
 abbrev pub capped : ℕ → Option ℕ → Figure
-capped most none = Nothing
+capped most none = None
 capped most (some n) = figure (leb n most) n
 
 -- ## Pieces
@@ -38,8 +37,8 @@ pub record Cut (t : ℕ) (l : Text) (place : ℕ) : Type 0 where
 -- ## The words of an action, from the last on
 
 abbrev pub entered : ℕ → ℕ → Figure → Entry
-entered c a Nothing = Broken
-entered c a (Spells b) = Number (pack (crossing c a b))
+entered c a None = Broken
+entered c a (Some b) = Number (pack (crossing c a b))
 
 abbrev pub to_entry : ℕ → ℕ → List Text → Entry
 to_entry c a [] = Broken
@@ -47,8 +46,8 @@ to_entry c a (w ∷ []) = entered c a (capped most_bay (number_after 98 w))
 to_entry c a (w ∷ v ∷ ws) = Broken
 
 abbrev pub left : ℕ → Figure → List Text → Entry
-left c Nothing ws = Broken
-left c (Spells a) ws = to_entry c a ws
+left c None ws = Broken
+left c (Some a) ws = to_entry c a ws
 
 abbrev pub from_entry : ℕ → List Text → Entry
 from_entry c [] = Broken
@@ -56,8 +55,8 @@ from_entry c (w ∷ []) = Broken
 from_entry c (w ∷ v ∷ ws) = left c (capped most_bay (number_after 98 w)) (v ∷ ws)
 
 abbrev pub moved : Figure → List Text → Entry
-moved Nothing ws = Broken
-moved (Spells c) ws = from_entry c ws
+moved None ws = Broken
+moved (Some c) ws = from_entry c ws
 
 abbrev pub carrier_entry : List Text → Entry
 carrier_entry [] = Broken

@@ -18,74 +18,60 @@ pub enum Entry {
     Broken,
 }
 
-// Digits that spell a number within its limit, or no such number.
-#[derive(Clone, Copy)]
-enum Figure {
-    Spells(u32),
-    Nothing,
-}
-
 // One more digit, up to the most.
-fn digit_on(n: u32, b: u8, most: u32) -> Figure
+fn digit_on(n: u32, b: u8, most: u32) -> Option<u32>
     ensures { result ≡ digit_on most n b }
 {
     if b < 48 {
-        return Figure::Nothing;
+        return None;
     }
     if 57 < b {
-        return Figure::Nothing;
+        return None;
     }
     let next = (n as u64) * 10 + ((b - 48) as u64);
     if next <= most as u64 {
-        return Figure::Spells(next as u32);
+        return Some(next as u32);
     }
-    Figure::Nothing
+    None
 }
 
 // Digits, at least one, that spell a number up to the most.
-fn number(digits: &[u8], most: u32) -> Figure
+fn number(digits: &[u8], most: u32) -> Option<u32>
     ensures { result ≡ figure (numeral digits.now and leb (value digits.now) most) (value digits.now) }
 {
     if digits.len() == 0 {
-        return Figure::Nothing;
+        return None;
     }
     let mut n: u32 = 0;
-    let mut i = 0;
-    while i < digits.len() {
-        let Figure::Spells(next) = digit_on(n, digits[i], most) else {
-            return Figure::Nothing;
-        };
-        n = next;
-        i += 1;
+    for b in digits {
+        n = digit_on(n, *b, most)?;
     }
-    Figure::Spells(n)
+    Some(n)
 }
 
 // The letter, then such digits.
-fn number_after(letter: u8, word: &[u8], most: u32) -> Figure
+fn number_after(letter: u8, word: &[u8], most: u32) -> Option<u32>
     ensures { result ≡ capped most (number_after letter word.now) }
 {
     if word.len() == 0 {
-        return Figure::Nothing;
+        return None;
     }
     if word[0] == letter {
         return number(&word[1..], most);
     }
-    Figure::Nothing
+    None
 }
 
 // The place of the first such byte, or the text's end.
 fn cut(text: &[u8], b: u8) -> usize
     ensures { Cut b text.now result }
 {
-    let mut i = 0;
-    while i < text.len() {
-        if text[i] == b {
+    for (i, x) in text.iter().enumerate() {
+        if *x == b {
             return i;
         }
-        i += 1;
     }
-    i
+    text.len()
 }
 
 // The bay that is entered, the last word.
@@ -95,7 +81,7 @@ fn to_bay(carrier: u32, from: u16, text: &[u8]) -> Entry
     if cut(text, 32) < text.len() {
         return Entry::Broken;
     }
-    let Figure::Spells(to) = number_after(98, text, 65535) else {
+    let Some(to) = number_after(98, text, 65535) else {
         return Entry::Broken;
     };
     Entry::Number(docket::pack(Crossing {
@@ -111,7 +97,7 @@ fn from_bay(carrier: u32, text: &[u8]) -> Entry
 {
     let end = cut(text, 32);
     if end < text.len() {
-        let Figure::Spells(from) = number_after(98, &text[..end], 65535) else {
+        let Some(from) = number_after(98, &text[..end], 65535) else {
             return Entry::Broken;
         };
         let next = end + 1;
@@ -126,7 +112,7 @@ fn carrier(text: &[u8]) -> Entry
 {
     let end = cut(text, 32);
     if end < text.len() {
-        let Figure::Spells(carrier) = number_after(99, &text[..end], 4294967295) else {
+        let Some(carrier) = number_after(99, &text[..end], 4294967295) else {
             return Entry::Broken;
         };
         let next = end + 1;
@@ -178,7 +164,7 @@ fn plan_entry(line: &[u8]) -> Entry
 fn report_entry(line: &[u8]) -> Entry
     ensures { result ≡ report_entry line.now }
 {
-    let Figure::Spells(name) = number(line, 4294967295) else {
+    let Some(name) = number(line, 4294967295) else {
         return Entry::Broken;
     };
     Entry::Number(name as u64)

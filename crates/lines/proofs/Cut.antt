@@ -1,4 +1,5 @@
 -- Lines are made from the right, so up to the first LF they make one line, without a CR at its end, and the rest makes the others.
+use Rattle.std.proofs.Common.{None, Some}
 use Rattle.std.specs.Prelude.{if◌then◌else◌}
 use mathlib.Core.Path.{◌≡◌, refl, sym, ◌∙◌, ap}
 use mathlib.Core.Bool.{true, false, not}
@@ -13,7 +14,7 @@ use borrow.Author.Tests.{ne_eqb, not-true}
 use Rattle.paper.specs.Basics.{◌and◌}
 use Rattle.paper.specs.Text.{Text, LF, CR, join, begins_with_lf, lines, all}
 use Rattle.paper.proofs.Tests.{by_cases, and_left, and_right, and_both}
-use Rattle.lines.specs.declared.FoundLine.TheVariants as the
+use Rattle.lines.specs.FoundLine.{FoundLine}
 use Rattle.lines.specs.Lines.{part, no_lf, EndOf, TextAt, LineAt}
 
 -- without a CR at the end
@@ -156,11 +157,19 @@ module _ (file : Text) (from : ℕ) where
     line-none h i = ap lines (drop_of_length-le file {i = from} (omega arith))
 
 -- how the answers are given
-pub found : {file : Text} {from end next : ℕ} → TextAt file from end next → LineAt file from (the.Text end next)
+abbrev end_of : FoundLine → ℕ
+end_of (Some l) = l.end
+end_of None = 0
+
+abbrev next_of : FoundLine → ℕ
+next_of (Some l) = l.next
+next_of None = 0
+
+pub found : {file : Text} {from end next : ℕ} → TextAt file from end next → LineAt file from (Some (record { end = end; next = next }))
 found {file} {from} {end} {next} t = record {
-  line = λ e n q. let a : end ≡ e = cc in let b : next ≡ n = cc in rw (← a, ← b) t;
+  line = λ e n q. let a : end ≡ e = ap end_of q in let b : next ≡ n = ap next_of q in rw (← a, ← b) t;
   none = λ q. let z : ◌≡◌ {A = ℕ} 0 1 = cc in absurd (omega arith);
 }
 
-pub ended : {file : Text} {from : ℕ} → lines (drop from file) ≡ [] → LineAt file from the.End
+pub ended : {file : Text} {from : ℕ} → lines (drop from file) ≡ [] → LineAt file from None
 ended e = record { line = λ e n q. let z : ◌≡◌ {A = ℕ} 0 1 = cc in absurd (omega arith); none = λ q. e }

@@ -1,10 +1,9 @@
 -- What finding a line in a file finds, and what beginning with a word means.
 -- Assumes nothing.
-use Rattle.std.specs.Prelude.{Bool, true, false, not, [], ◌∷◌, ◌≡◌, ℕ, ◌-◌, ◌≤◌, ◌<◌, eqb, length, take, drop, get_or}
+use Rattle.std.specs.Prelude.{Bool, true, false, not, [], ◌∷◌, ◌≡◌, ℕ, ◌-◌, ◌≤◌, ◌<◌, eqb, length, take, drop, get_or, None, Some}
 use Rattle.paper.specs.Basics.{◌and◌}
 use Rattle.paper.specs.Text.{Text, LF, lines, all}
-use Rattle.lines.specs.declared.FoundLine.{FoundLine}
-use Rattle.lines.specs.declared.FoundLine.TheVariants as the
+use Rattle.lines.specs.FoundLine.{FoundLine}
 
 -- the bytes of a file from one place up to another
 abbrev pub part : Text → ℕ → ℕ → Text
@@ -28,8 +27,8 @@ pub record TextAt (file : Text) (from end next : ℕ) : Type 0 where
   pub reads : lines (drop from file) ≡ part file from end ∷ lines (drop next file)
 
 pub record LineAt (file : Text) (from : ℕ) (r : FoundLine) : Type 0 where
-  pub line : (end next : ℕ) → r ≡ the.Text end next → TextAt file from end next
-  pub none : r ≡ the.End → lines (drop from file) ≡ []
+  pub line : (end next : ℕ) → r ≡ Some (record { end = end; next = next }) → TextAt file from end next
+  pub none : r ≡ None → lines (drop from file) ≡ []
 
 unfoldable pub begins : Text → Text → Bool
 begins [] l = true

@@ -1,4 +1,5 @@
 -- What each way out of a call says.
+use Rattle.std.proofs.Common.{Err, None, Ok, Some}
 use mathlib.Core.Path.{◌≡◌, refl, sym, ◌∙◌, ap}
 use mathlib.Core.Bool.{true, false}
 use mathlib.Core.List.{List}
@@ -14,20 +15,16 @@ use Rattle.paper.proofs.Tests.{never, not-both, by_read}
 use Rattle.docket.specs.declared.Refusal.TheVariants as docket
 use Rattle.stores.proofs.Stores.{wrote-stands}
 use Rattle.gridmap.specs.declared.Grid.{Grid as Held}
-use Rattle.gridmap.specs.declared.MapRead.{MapRead}
-use Rattle.gridmap.specs.declared.MapRead.TheVariants as map_read
+use Rattle.gridmap.specs.MapRead.{MapRead}
 use Rattle.gridmap.specs.Cells.{numbering, Reads}
 use Rattle.scenario.specs.declared.Reading.{Reading}
-use Rattle.scenario.specs.declared.ScenarioRead.{ScenarioRead}
-use Rattle.scenario.specs.declared.ScenarioRead.TheVariants as scenario-read
+use Rattle.scenario.specs.ScenarioRead.{ScenarioRead}
 use Rattle.scenario.specs.Under.{state_of, starts_of, goals_of, due_of, read_of, answer_of, answer_by, count_read, Came, Feeds, Over, Ends}
 use Rattle.scenario.proofs.Ending.{answer-is, read-good}
-use Rattle.docket.specs.declared.Verdict.TheVariants as verdict
 use Rattle.paper.specs.Docket.{granted}
 use Rattle.readers.proofs.Whole.{map-bad}
 use Rattle.link.specs.declared.UnderWay.{UnderWay}
 use Rattle.link.specs.declared.Link.{Link}
-use Rattle.link.specs.declared.Said.TheVariants as said
 use Rattle.link.specs.declared.Turn.{Turn}
 use Rattle.link.specs.Link.{piece_bytes, reading_in, carriers_in, state_in, under_way_of, under_way_by, link_by, finish_in, told, verdict_by, over_link, FedSays, PieceSays, OverSays, EndSays, BeginSays}
 use Rattle.scenario.proofs.Taking.{feeds-sound, ends-sound}
@@ -73,19 +70,19 @@ module _ (l : Link) (bytes : Text) (m : length l.start ≡ most_carriers) (n : l
       }
 
 module _ (l : Link) (bytes : Text) where
-  pub piece-more : l.phase ≡ 1 → length bytes ≤ piece_bytes → (r : Link) → FedSays l bytes r → PieceSays l bytes (record { said = said.More; link = r })
+  pub piece-more : l.phase ≡ 1 → length bytes ≤ piece_bytes → (r : Link) → FedSays l bytes r → PieceSays l bytes (record { said = None; link = r })
   piece-more e h r w =
       let o = eq-eqb l.phase 1 e in
       let s = le-leb (length bytes) piece_bytes h in
       record { answers = rw (o, s); after = record { leaves = rw (o, s) w.leaves; means = λ a b. w.means } }
 
-  pub piece-long : l.phase ≡ 1 → piece_bytes < length bytes → PieceSays l bytes (record { said = said.Told (verdict.Denied docket.LongPiece); link = l })
+  pub piece-long : l.phase ≡ 1 → piece_bytes < length bytes → PieceSays l bytes (record { said = Some (Err docket.LongPiece); link = l })
   piece-long e h =
       let o = eq-eqb l.phase 1 e in
       let s = lt-leb (length bytes) piece_bytes h in
       record { answers = rw (o, s); after = record { leaves = rw (o, s); means = λ a b. not-both b s } }
 
-  pub piece-ended : (l.phase ≡ 1 → ⊥) → PieceSays l bytes (record { said = said.Told (verdict.Denied docket.Ended); link = l })
+  pub piece-ended : (l.phase ≡ 1 → ⊥) → PieceSays l bytes (record { said = Some (Err docket.Ended); link = l })
   piece-ended h =
       let o = ne_eqb l.phase 1 h in
       record { answers = rw o; after = record { leaves = rw o; means = λ a b. not-both a o } }
@@ -104,7 +101,7 @@ module _ (l : Link) (m : length l.start ≡ most_carriers) (n : length l.goal �
   counted : answer_of found ≡ count_read (read_of r done.carriers)
   counted = a ∙ answer-is r done.carriers done.stored.count
 
-  pub over-good : (k : ℕ) → found ≡ scenario-read.Carriers k → OverSays l (record { said = said.Told (verdict.Granted k); link = ended l starts goals })
+  pub over-good : (k : ℕ) → found ≡ Ok k → OverSays l (record { said = Some (Ok k); link = ended l starts goals })
   over-good k f =
       let c : good k ≡ count_read (read_of r done.carriers) = sym (ap answer_of f) ∙ counted in
       let g = read-good r done.carriers k c in
@@ -122,7 +119,7 @@ module _ (l : Link) (m : length l.start ≡ most_carriers) (n : length l.goal �
         });
       }
 
-  pub over-bad : (b : ℕ) → found ≡ scenario-read.Bad b → OverSays l (record { said = said.Told (verdict.Denied (docket.BadScenario b)); link = ended l l.start l.goal })
+  pub over-bad : (b : ℕ) → found ≡ Err b → OverSays l (record { said = Some (Err (docket.BadScenario b)); link = ended l l.start l.goal })
   over-bad b f =
       by_read (finish_in l)
       (λ cs q.
@@ -140,16 +137,16 @@ module _ (l : Link) where
   pub end-open : l.phase ≡ 1 → (r : Turn) → OverSays l r → EndSays l r
   end-open e r w = let o = eq-eqb l.phase 1 e in record { answers = rw o w.answers; after = record { leaves = rw o w.leaves; holds = λ a. w.holds } }
 
-  pub end-ended : (l.phase ≡ 1 → ⊥) → EndSays l (record { said = said.Told (verdict.Denied docket.Ended); link = l })
+  pub end-ended : (l.phase ≡ 1 → ⊥) → EndSays l (record { said = Some (Err docket.Ended); link = l })
   end-ended h = let o = ne_eqb l.phase 1 h in record { answers = rw o; after = record { leaves = rw o; holds = λ a. not-both a o } }
 
 -- ## The beginning
 module _ {map before table : List ℕ} {x : MapRead} (w : Reads map before x table) (l : Link) where
-  pub begin-bad : (b : ℕ) → x ≡ map_read.Bad b → BeginSays (read_map map) l (record { said = said.Told (verdict.Denied (docket.BadMap b)); link = l })
+  pub begin-bad : (b : ℕ) → x ≡ Err b → BeginSays (read_map map) l (record { said = Some (Err (docket.BadMap b)); link = l })
   begin-bad b e = let q = map-bad w b e in rw q (record { answers = refl; leaves = refl })
 
-  pub begin-good : (g : Held) → x ≡ map_read.Grid g → before ≡ replicate 4096 0 → (s : Reading) → s ≡ due_of true 0 0 0 → (k : UnderWay) → k ≡ under_way_of s
-      → BeginSays (read_map map) l (record { said = said.Told (verdict.Granted 0); link = record { start = replicate most_carriers 0; goal = replicate most_carriers 0; cells = table; line = k; phase = 1; height = g.height; width = g.width } })
+  pub begin-good : (g : Held) → x ≡ Ok g → before ≡ replicate 4096 0 → (s : Reading) → s ≡ due_of true 0 0 0 → (k : UnderWay) → k ≡ under_way_of s
+      → BeginSays (read_map map) l (record { said = Some (Ok 0); link = record { start = replicate most_carriers 0; goal = replicate most_carriers 0; cells = table; line = k; phase = 1; height = g.height; width = g.width } })
   begin-good g e z s f k q =
       by_read (read_map map)
       (λ G p.

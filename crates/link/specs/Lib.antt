@@ -1,1 +1,2 @@
 pub mod Link
+pub mod Said

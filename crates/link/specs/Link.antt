@@ -1,6 +1,6 @@
 -- What a link's numbers stand for, and what each call answers and leaves.
 -- Assumes nothing.
-use Rattle.std.specs.Prelude.{Bool, true, false, ◌≡◌, ℕ, ◌-◌, eqb, leb, length, take, replicate, if◌then◌else◌}
+use Rattle.std.specs.Prelude.{Bool, true, false, ◌≡◌, ℕ, ◌-◌, eqb, leb, length, take, replicate, if◌then◌else◌, None, Some}
 use mathlib.Core.List.{List, [], ◌∷◌, foldl}
 use Rattle.std.proofs.lemmas.List.Edits.{sets}
 use Rattle.paper.specs.Limits.{most_carriers}
@@ -17,8 +17,7 @@ use Rattle.scenario.specs.Under.{state_of, starts_of, goals_of}
 use Rattle.docket.specs.Reading.{verdict_of}
 use Rattle.link.specs.declared.UnderWay.{UnderWay}
 use Rattle.link.specs.declared.Link.{Link}
-use Rattle.link.specs.declared.Said.{Said}
-use Rattle.link.specs.declared.Said.TheVariants as said
+use Rattle.link.specs.Said.{Said}
 use Rattle.link.specs.declared.Turn.{Turn}
 
 -- ## What the numbers stand for
@@ -144,8 +143,8 @@ pub data Saying : Type 0 where
   told : Verdict → Saying
 
 abbrev pub saying_of : Said → Saying
-saying_of said.More = more
-saying_of (said.Told v) = told (verdict_of v)
+saying_of None = more
+saying_of (Some v) = told (verdict_of v)
 
 -- begin
 abbrev pub begun_link : Grid → Link

@@ -5,7 +5,7 @@
 ghost use Rattle.std.specs.Prelude.{◌≡◌};
 ghost use Rattle.link.specs.Link.{yes_of, bit_of, reading_in, under_way_of};
 
-use docket::Verdict;
+use docket::Refusal;
 use fields::{FieldSeen, FieldsPast, TextSeen};
 use scenario::Reading;
 
@@ -53,52 +53,33 @@ pub struct Link {
     pub width: u8,
 }
 
-// What a call answers: more is due, or a verdict.
-#[derive(Clone, Copy)]
-pub enum Said {
-    More,
-    Told(Verdict),
-}
-
 // What a call answers and leaves.
 #[derive(Clone, Copy)]
 pub struct Turn {
-    pub said: Said,
+    pub said: Option<Result<u64, Refusal>>,
     pub link: Link,
-}
-
-fn yes(n: u8) -> bool
-    ensures { result ≡ yes_of n }
-{
-    if n == 0 { false } else { true }
-}
-
-fn bit(b: bool) -> u8
-    ensures { result ≡ bit_of b }
-{
-    if b { 1 } else { 0 }
 }
 
 // The reading that the numbers stand for.
 pub fn reading(k: UnderWay) -> Reading
     ensures { result ≡ reading_in k }
 {
-    let version = yes(k.version);
+    let version = k.version != 0;
     Reading {
-        failed: yes(k.failed),
+        failed: k.failed != 0,
         version: version,
-        begun: yes(k.begun),
-        held: yes(k.held),
+        begun: k.begun != 0,
+        held: k.held != 0,
         count: carrier_lists::counted(version, k.count),
         start: 0,
         goal: 0,
         text: TextSeen {
             place: k.place,
-            agrees: yes(k.agrees),
+            agrees: k.agrees != 0,
         },
         past: FieldsPast {
             index: k.index,
-            well: yes(k.well),
+            well: k.well != 0,
             sx: k.sx,
             sy: k.sy,
             gx: k.gx,
@@ -107,10 +88,10 @@ pub fn reading(k: UnderWay) -> Reading
         field: FieldSeen {
             place: k.size,
             number: k.number,
-            digits: yes(k.digits),
-            point: yes(k.point),
-            plain: yes(k.plain),
-            figure: yes(k.figure),
+            digits: k.digits != 0,
+            point: k.point != 0,
+            plain: k.plain != 0,
+            figure: k.figure != 0,
         },
     }
 }
@@ -126,8 +107,8 @@ pub fn keep(r: Reading) -> UnderWay
         gy: 0,
         number: 0,
         count: r.count,
-        failed: bit(r.failed),
-        version: bit(r.version),
+        failed: u8::from(r.failed),
+        version: u8::from(r.version),
         begun: 0,
         held: 0,
         place: 0,
@@ -144,24 +125,24 @@ pub fn keep(r: Reading) -> UnderWay
     if r.failed {
         return k;
     }
-    k.begun = bit(r.begun);
-    k.held = bit(r.held);
+    k.begun = u8::from(r.begun);
+    k.held = u8::from(r.held);
     if r.version {
         k.place = r.text.place;
-        k.agrees = bit(r.text.agrees);
+        k.agrees = u8::from(r.text.agrees);
         return k;
     }
     k.index = r.past.index;
-    k.well = bit(r.past.well);
+    k.well = u8::from(r.past.well);
     k.sx = r.past.sx;
     k.sy = r.past.sy;
     k.gx = r.past.gx;
     k.gy = r.past.gy;
     k.size = r.field.place;
     k.number = r.field.number;
-    k.digits = bit(r.field.digits);
-    k.point = bit(r.field.point);
-    k.plain = bit(r.field.plain);
-    k.figure = bit(r.field.figure);
+    k.digits = u8::from(r.field.digits);
+    k.point = u8::from(r.field.point);
+    k.plain = u8::from(r.field.plain);
+    k.figure = u8::from(r.field.figure);
     k
 }

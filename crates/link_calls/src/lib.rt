@@ -4,10 +4,9 @@
 ghost use Rattle.paper.specs.Map.{read_map};
 ghost use Rattle.link.specs.Link.{FedSays, OverSays, BeginSays, PieceSays, EndSays};
 
-use docket::{Refusal, Verdict};
-use gridmap::{Grid, MapRead};
-use link::{Link, Said, Turn};
-use scenario::ScenarioRead;
+use docket::Refusal;
+use gridmap::Grid;
+use link::{Link, Turn};
 
 // The scenario is due, on this map. A map that breaks its layout leaves the link as it was.
 pub fn begin(link: Link, map: &[u8]) -> Turn
@@ -16,11 +15,11 @@ pub fn begin(link: Link, map: &[u8]) -> Turn
     let mut cells = [0u16; 4096];
     let found = gridmap::read(map, &mut cells);
     match found {
-        MapRead::Grid(grid) => {
+        Ok(grid) => {
             let start = [0u16; paper::CARRIERS];
             let goal = [0u16; paper::CARRIERS];
             Turn {
-                said: Said::Told(Verdict::Granted(0)),
+                said: Some(Ok(0)),
                 link: Link {
                     start: start,
                     goal: goal,
@@ -32,8 +31,8 @@ pub fn begin(link: Link, map: &[u8]) -> Turn
                 },
             }
         }
-        MapRead::Bad(line) => Turn {
-            said: Said::Told(Verdict::Denied(Refusal::BadMap(line))),
+        Err(line) => Turn {
+            said: Some(Err(Refusal::BadMap(line))),
             link: link,
         },
     }
@@ -77,17 +76,17 @@ pub fn piece(link: Link, bytes: &[u8]) -> Turn
     if link.phase == 1 {
         if bytes.len() <= link::PIECE {
             return Turn {
-                said: Said::More,
+                said: None,
                 link: fed(link, bytes),
             };
         }
         return Turn {
-            said: Said::Told(Verdict::Denied(Refusal::LongPiece)),
+            said: Some(Err(Refusal::LongPiece)),
             link: link,
         };
     }
     Turn {
-        said: Said::Told(Verdict::Denied(Refusal::Ended)),
+        said: Some(Err(Refusal::Ended)),
         link: link,
     }
 }
@@ -115,16 +114,16 @@ fn over(link: Link) -> Turn
     let mut next = link;
     next.phase = 2;
     match found {
-        ScenarioRead::Carriers(carriers) => {
+        Ok(carriers) => {
             next.start = starts;
             next.goal = goals;
             Turn {
-                said: Said::Told(Verdict::Granted(carriers as u64)),
+                said: Some(Ok(carriers as u64)),
                 link: next,
             }
         }
-        ScenarioRead::Bad(line) => Turn {
-            said: Said::Told(Verdict::Denied(Refusal::BadScenario(line))),
+        Err(line) => Turn {
+            said: Some(Err(Refusal::BadScenario(line))),
             link: next,
         },
     }
@@ -138,7 +137,7 @@ pub fn end(link: Link) -> Turn
         return over(link);
     }
     Turn {
-        said: Said::Told(Verdict::Denied(Refusal::Ended)),
+        said: Some(Err(Refusal::Ended)),
         link: link,
     }
 }

@@ -1,4 +1,5 @@
 -- What each way out of reading a scenario says: 14 or 15, too little room, or all of it written.
+use Rattle.std.proofs.Common.{Err, Ok}
 use mathlib.Core.Path.{◌≡◌, refl}
 use mathlib.Core.Bool.{true, false}
 use mathlib.Core.List.{List}
@@ -14,8 +15,7 @@ use Rattle.paper.specs.Map.{Grid}
 use Rattle.paper.proofs.Tests.{never, or_left, or_right, or-neither, by_read}
 use Rattle.paper.specs.Scenario.{read_scenario}
 use Rattle.gridmap.specs.declared.Grid.{Grid as Held}
-use Rattle.scenario.specs.declared.ScenarioRead.{ScenarioRead}
-use Rattle.scenario.specs.declared.ScenarioRead.TheVariants as scenario-read
+use Rattle.scenario.specs.ScenarioRead.{ScenarioRead}
 use Rattle.scenario.specs.Under.{bay_by, starts_of, goals_of, Reads}
 use Rattle.listing.specs.Reading.{Listing, listing, listing_in, short, ScenarioSays}
 
@@ -23,7 +23,7 @@ module _ {file t : List ℕ} {G : Held} {x : ScenarioRead} {a a' b b' : List ℕ
   abbrev R : Read (List (Bay × Bay))
   R = read_scenario G.width G.height (bay_by t G) file
 
-  pub list-bad : (l : ℕ) → x ≡ scenario-read.Bad l → ScenarioSays (listing_in R) starts goals (denied (bad_scenario l)) starts goals
+  pub list-bad : (l : ℕ) → x ≡ Err l → ScenarioSays (listing_in R) starts goals (denied (bad_scenario l)) starts goals
   list-bad l e =
       by_read R
       (λ cs q. let y : bad_line l ≡ good (length cs) = rw (e, q) at read.answer in never (cc))
@@ -32,7 +32,7 @@ module _ {file t : List ℕ} {G : Held} {x : ScenarioRead} {a a' b b' : List ℕ
       let z : n ≡ l = cc in
       rw (q, z) (record { answers = refl; starts_then = refl; goals_then = refl }))
 
-  module _ (k : ℕ) (e : x ≡ scenario-read.Carriers k) where
+  module _ (k : ℕ) (e : x ≡ Ok k) where
     carriers : (cs : List (Bay × Bay)) → R ≡ good cs → k ≡ length cs
     carriers cs q = let y : good k ≡ good (length cs) = rw (e, q) at read.answer in cc
 

@@ -7,9 +7,8 @@ ghost use Rattle.scenario.specs.Under.{bay_by};
 ghost use Rattle.docket.specs.Reading.{verdict_of};
 ghost use Rattle.listing.specs.Reading.{listing_in, ScenarioSays};
 
-use docket::{Refusal, Verdict};
+use docket::Refusal;
 use gridmap::Grid;
-use scenario::ScenarioRead;
 
 // The carriers of a scenario, by the cells' numbers. They are counted before the first is stored.
 pub fn list(
@@ -18,7 +17,7 @@ pub fn list(
     file: &[u8],
     starts: &mut [u16],
     goals: &mut [u16],
-) -> Verdict
+) -> Result<u64, Refusal>
     ensures { ScenarioSays (listing_in (read_scenario grid.width grid.height (bay_by cells.now grid) file.now))
         starts.old goals.old (verdict_of result) starts.new goals.new }
 {
@@ -26,17 +25,17 @@ pub fn list(
     let mut no_goal = [0u16; 1];
     let found = scenario::read(file, grid, cells, &mut no_start, &mut no_goal);
     match found {
-        ScenarioRead::Carriers(carriers) => {
+        Ok(carriers) => {
             let needed = carriers as usize;
             if starts.len() < needed {
-                return Verdict::Denied(Refusal::Room(needed as u64));
+                return Err(Refusal::Room(needed as u64));
             }
             if goals.len() < needed {
-                return Verdict::Denied(Refusal::Room(needed as u64));
+                return Err(Refusal::Room(needed as u64));
             }
-            scenario::read(file, grid, cells, starts, goals);
-            Verdict::Granted(needed as u64)
+            let _ = scenario::read(file, grid, cells, starts, goals);
+            Ok(needed as u64)
         }
-        ScenarioRead::Bad(line) => Verdict::Denied(Refusal::BadScenario(line)),
+        Err(line) => Err(Refusal::BadScenario(line)),
     }
 }

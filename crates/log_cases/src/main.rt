@@ -3,14 +3,13 @@
 // the functions' types have no place for them.
 #![tactic(auto)]
 
-use cases::{first8, first16, first64};
-use checker::Checked;
+use cases::first;
 use docket::Refusal;
 use marks::Reported;
 use std::io;
 
 // An answer in the vectors' numbers: the refusal's and what it carries, 99 for "already", 0 for what is no refusal.
-#[derive(Clone, Copy)]
+#[derive(Clone, Copy, PartialEq, Eq)]
 struct Code(u64, u64);
 
 // Whether a case agreed, and the place after it.
@@ -34,10 +33,10 @@ fn of_refusal(r: Refusal) -> Code {
     Code(docket::number(r), docket::carried(r))
 }
 
-fn of_checked(a: Checked) -> Code {
+fn of_checked(a: Result<(), Refusal>) -> Code {
     match a {
-        Checked::Passed => Code(0, 0),
-        Checked::Refused(r) => of_refusal(r),
+        Ok(()) => Code(0, 0),
+        Err(r) => of_refusal(r),
     }
 }
 
@@ -54,7 +53,7 @@ fn answers(text: &[u8], at: usize, a: Code) -> Outcome {
     let number = cases::number(text, at);
     let carried = cases::number(text, number.next);
     Outcome {
-        agrees: a.0 == number.value && a.1 == carried.value,
+        agrees: a == Code(number.value, carried.value),
         next: carried.next,
     }
 }
@@ -67,10 +66,10 @@ fn read_lists(
     goal: &mut [u16],
     plan: &mut [u64],
 ) -> Lists {
-    let a = cases::list16(text, at, rails);
-    let b = cases::list16(text, a.next, start);
-    let c = cases::list16(text, b.next, goal);
-    let d = cases::list64(text, c.next, plan);
+    let a = cases::list(text, at, rails);
+    let b = cases::list(text, a.next, start);
+    let c = cases::list(text, b.next, goal);
+    let d = cases::list(text, c.next, plan);
     Lists {
         rails: a.count,
         start: b.count,
@@ -91,35 +90,23 @@ fn check_case(text: &[u8], at: usize) -> Outcome {
     );
     let a = checker::check(
         bays.value,
-        first16(&rails, l.rails),
-        first16(&start, l.start),
-        first16(&goal, l.goal),
-        first64(&plan, l.plan),
+        first(&rails, l.rails),
+        first(&start, l.start),
+        first(&goal, l.goal),
+        first(&plan, l.plan),
     );
     answers(text, l.next, of_checked(a))
 }
 
-// Places that nothing is written to keep this number.
-const KEPT: u32 = 4294967295;
+// Places that nothing is written to keep this number. No mark has it.
+const KEPT: u32 = u32::MAX;
 
-// Whether the slots are those wanted, and every place beyond them is as it was.
-fn holds(out: &[u32], want: &[u64]) -> bool {
-    let mut i = 0;
-    while i < out.len() {
-        let kept = if i < want.len() { want[i] } else { KEPT as u64 };
-        if out[i] as u64 != kept {
-            return false;
-        }
-        i += 1;
-    }
-    want.len() <= out.len()
-}
-
-fn slots_are(text: &[u8], at: usize, out: &[u32]) -> Outcome {
-    let mut want = [0u64; 1024];
-    let w = cases::list64(text, at, &mut want);
+// Whether the slots or marks are those that stand at `at`, and every place beyond them is as it was.
+fn are<T: Copy + Into<u64>>(text: &[u8], at: usize, places: &[T]) -> Outcome {
+    let mut want = [u64::from(KEPT); 1024];
+    let w = cases::list(text, at, &mut want);
     Outcome {
-        agrees: holds(out, first64(&want, w.count)),
+        agrees: w.count <= places.len() && places.iter().zip(&want).all(|(p, w)| (*p).into() == *w),
         next: w.next,
     }
 }
@@ -133,12 +120,9 @@ fn slots_into(
     plan: &[u64],
     out: &mut [u32],
     room: usize,
-) -> Checked {
-    if room <= out.len() {
-        reports::slots(bays, rails, start, goal, plan, &mut out[..room])
-    } else {
-        reports::slots(bays, rails, start, goal, plan, out)
-    }
+) -> Result<(), Refusal> {
+    let n = room.min(out.len());
+    reports::slots(bays, rails, start, goal, plan, &mut out[..n])
 }
 
 fn slots_case(text: &[u8], at: usize) -> Outcome {
@@ -154,41 +138,17 @@ fn slots_case(text: &[u8], at: usize) -> Outcome {
     let room = cases::number(text, l.next);
     let a = slots_into(
         bays.value,
-        first16(&rails, l.rails),
-        first16(&start, l.start),
-        first16(&goal, l.goal),
-        first64(&plan, l.plan),
+        first(&rails, l.rails),
+        first(&start, l.start),
+        first(&goal, l.goal),
+        first(&plan, l.plan),
         &mut out,
         room.value as usize,
     );
     let o = answers(text, room.next, of_checked(a));
-    let w = slots_are(text, o.next, &out);
+    let w = are(text, o.next, &out);
     Outcome {
         agrees: o.agrees && w.agrees,
-        next: w.next,
-    }
-}
-
-// Whether the marks are those wanted.
-fn are(marks: &[u8], want: &[u64]) -> bool {
-    let mut i = 0;
-    while i < marks.len() {
-        if want.len() <= i {
-            return false;
-        }
-        if marks[i] as u64 != want[i] {
-            return false;
-        }
-        i += 1;
-    }
-    want.len() <= marks.len()
-}
-
-fn marks_are(text: &[u8], at: usize, marks: &[u8]) -> Outcome {
-    let mut want = [0u64; 1024];
-    let w = cases::list64(text, at, &mut want);
-    Outcome {
-        agrees: are(marks, first64(&want, w.count)),
         next: w.next,
     }
 }
@@ -204,11 +164,8 @@ fn report_on(
     count: usize,
     name: u64,
 ) -> Reported {
-    if count <= marks.len() {
-        reports::report(bays, rails, start, goal, plan, &mut marks[..count], name)
-    } else {
-        reports::report(bays, rails, start, goal, plan, marks, name)
-    }
+    let n = count.min(marks.len());
+    reports::report(bays, rails, start, goal, plan, &mut marks[..n], name)
 }
 
 fn report_case(text: &[u8], at: usize) -> Outcome {
@@ -221,20 +178,20 @@ fn report_case(text: &[u8], at: usize) -> Outcome {
     let l = read_lists(
         text, bays.next, &mut rails, &mut start, &mut goal, &mut plan,
     );
-    let m = cases::list8(text, l.next, &mut marks);
+    let m = cases::list(text, l.next, &mut marks);
     let name = cases::number(text, m.next);
     let a = report_on(
         bays.value,
-        first16(&rails, l.rails),
-        first16(&start, l.start),
-        first16(&goal, l.goal),
-        first64(&plan, l.plan),
+        first(&rails, l.rails),
+        first(&start, l.start),
+        first(&goal, l.goal),
+        first(&plan, l.plan),
         &mut marks,
         m.count,
         name.value,
     );
     let o = answers(text, name.next, of_reported(a));
-    let w = marks_are(text, o.next, first8(&marks, m.count));
+    let w = are(text, o.next, first(&marks, m.count));
     Outcome {
         agrees: o.agrees && w.agrees,
         next: w.next,
@@ -255,8 +212,7 @@ fn reports_agree(
     let count = cases::number(text, at);
     let mut next = count.next;
     let mut agrees = true;
-    let mut i = 0;
-    while i < count.value {
+    for _ in 0..count.value {
         let name = cases::number(text, next);
         let a = report_on(
             bays,
@@ -269,11 +225,8 @@ fn reports_agree(
             name.value,
         );
         let o = answers(text, name.next, of_reported(a));
-        if !o.agrees {
-            agrees = false;
-        }
+        agrees = agrees && o.agrees;
         next = o.next;
-        i += 1;
     }
     Outcome { agrees, next }
 }
@@ -293,13 +246,13 @@ fn reports_case(text: &[u8], at: usize) -> Outcome {
         text,
         l.next,
         bays.value,
-        first16(&rails, l.rails),
-        first16(&start, l.start),
-        first16(&goal, l.goal),
-        first64(&plan, l.plan),
+        first(&rails, l.rails),
+        first(&start, l.start),
+        first(&goal, l.goal),
+        first(&plan, l.plan),
         &mut marks,
     );
-    let w = marks_are(text, o.next, first8(&marks, l.plan));
+    let w = are(text, o.next, first(&marks, l.plan));
     Outcome {
         agrees: o.agrees && w.agrees,
         next: w.next,
@@ -313,28 +266,17 @@ struct Tally {
     cases: u64,
 }
 
-// The case at `at` of the file of that kind.
-fn case(kind: u64, text: &[u8], at: usize) -> Outcome {
-    match kind {
-        0 => check_case(text, at),
-        1 => slots_case(text, at),
-        2 => report_case(text, at),
-        _ => reports_case(text, at),
-    }
-}
-
-fn count_all(kind: u64, text: &[u8]) -> Tally {
+// Runs each case of the text.
+fn count_all<F: Fn(&[u8], usize) -> Outcome>(text: &[u8], case: F) -> Tally
+    requires { F.IsAlwaysCallable case }
+{
     let count = cases::number(text, 0);
     let mut next = count.next;
     let mut agree = 0;
-    let mut i = 0;
-    while i < count.value {
-        let o = case(kind, text, next);
-        if o.agrees {
-            agree += 1;
-        }
+    for _ in 0..count.value {
+        let o = case(text, next);
+        agree += u64::from(o.agrees);
         next = o.next;
-        i += 1;
     }
     Tally {
         agree,
@@ -342,20 +284,19 @@ fn count_all(kind: u64, text: &[u8]) -> Tally {
     }
 }
 
-// Counts over the whole of a file of data/.
-fn load(rt: &HostRuntime, path: &str, kind: u64) -> io::Result<Tally> {
+// Counts over the whole of a file of data/, and shows them.
+fn show<F: Fn(&[u8], usize) -> Outcome>(rt: &HostRuntime, name: &str, case: F) -> io::Result<()>
+    requires { F.IsAlwaysCallable case }
+{
     let mut text = [0u8; 131072];
-    let n = cases::load(rt, path, &mut text)?;
-    Ok(count_all(kind, first8(&text, n)))
-}
-
-fn show(rt: &impl Print, name: &str, t: Tally) -> io::Result<()> {
+    let n = cases::load(rt, name, &mut text)?;
+    let t = count_all(&text[..n], case);
     println!(rt; "{name} {} of {}", t.agree, t.cases)
 }
 
 fn main(rt: HostRuntime) -> io::Result<()> {
-    show(&rt, "check", load(&rt, "check", 0)?)?;
-    show(&rt, "slots", load(&rt, "slots", 1)?)?;
-    show(&rt, "report", load(&rt, "report", 2)?)?;
-    show(&rt, "reports", load(&rt, "reports", 3)?)
+    show(&rt, "check", check_case)?;
+    show(&rt, "slots", slots_case)?;
+    show(&rt, "report", report_case)?;
+    show(&rt, "reports", reports_case)
 }

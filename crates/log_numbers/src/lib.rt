@@ -8,7 +8,7 @@ ghost use Rattle.numbers.specs.Numbers.{number_of, value_of, report_number, repo
 ghost use Rattle.numbers.specs.Tells.{Tells};
 ghost use Rattle.log_numbers.specs.Agreeing.{agreement_number, agreement_value};
 
-use checker::Checked;
+use docket::Refusal;
 use ledger::Agreement;
 use marks::Reported;
 
@@ -16,12 +16,12 @@ use marks::Reported;
 const ALREADY: u64 = 100;
 
 // The check, opening and slots, of which so many are written: none but by slots.
-pub fn told_checked(answer: Checked, written: u64, value: &mut u64) -> u64
+pub fn told_checked(answer: Result<(), Refusal>, written: u64, value: &mut u64) -> u64
     ensures { Tells (number_of (checked_of answer)) (value_of written (checked_of answer)) result value.new }
 {
     match answer {
-        Checked::Passed => numbers::accepted(written, value),
-        Checked::Refused(r) => numbers::refused(r, value),
+        Ok(()) => numbers::accepted(written, value),
+        Err(r) => numbers::refused(r, value),
     }
 }
 

@@ -3,13 +3,13 @@
 -- Assumes nothing.
 use mathlib.Core.Path.{◌≡◌, sym, ◌∙◌}
 use mathlib.Core.Bool.{true, false, not}
-use mathlib.Core.List.{List, [], ◌++◌, append_assoc}
+use mathlib.Core.List.{List, [], ◌∷◌, ◌++◌, append_assoc}
 use Prim.Native.Nat.{ℕ, suc, ◌+◌, ◌-◌, ◌*◌, ◌≤◌, ◌<◌}
 use native.Mathlib.Nat.{add-zero}
 use native.Mathlib.Numerals.{add-one}
 use native.Mathlib.Omega.{arith}
-use lib.ListN.{length, set, take, drop, length-set, length-drop}
-use lib.Seq.{take-suc-set, length-take-le}
+use lib.ListN.{length, set, take, drop, length-set}
+use lib.Seq.{take-suc-set}
 use Rattle.paper.specs.Basics.{◌and◌, In}
 use Rattle.paper.specs.Yard.{Bay, Yard, joined}
 use Rattle.paper.specs.Path.{rings, inward}
@@ -25,11 +25,6 @@ use Rattle.lookup.proofs.Levelling.{fewer-fit, free-inside, inside, ring-far, he
 -- row a of the table, lent as a part of it
 abbrev pub lent_row : List ℕ → ℕ → List ℕ
 lent_row table a = take (a * words + words - a * words) (drop (a * words) table)
-
-pub lent_length : (table : List ℕ) (a : ℕ) → a * words + words ≤ length table → length (lent_row table a) ≡ words
-lent_length table a h =
-    let k : a * words + words - a * words ≡ words = omega arith in
-    rw k (length-take-le words (drop (a * words) table) (rw length-drop (omega arith)))
 
 lowest-row : (table held : List ℕ) (a u r : ℕ) → Lowest (λ b. mem_row table u b and (mem (lent_row table a) b and not (mem held b))) 0 span r
     → Lowest (λ b. mem_row table u b and (mem_row table a b and not (mem held b))) 0 span r
@@ -86,10 +81,10 @@ module _ {n : ℕ} {table held : List ℕ} {x e d : ℕ} (t : Distant n table he
 
       -- the lowest bay beside u that is one rail nearer and not held
       pub leading-more : (r : ℕ) → d * n * words ≤ length table → i + 1 < d → i < length room
-          → Lowest (λ b. mem_row table u b and (mem (lent_row table ((d - 1 - (i + 1)) * n + e)) b and not (mem held b))) 0 span r
+          → Lowest (λ b. mem_row table u b and (mem (lent_row table ((d - 2 - i) * n + e)) b and not (mem held b))) 0 span r
           → r < span → Leading (i + 1) r (set room i u)
       leading-more r fits h len l found =
-          let k : ℕ = d - 1 - (i + 1) in
+          let k : ℕ = d - 2 - i in
           let far : d - i ≡ suc (suc k) = omega arith in
           let nearer : d - (i + 1) ≡ suc k = omega arith in
           let below = fewer-fit d n (k + 1) fits (omega arith) in
@@ -109,12 +104,14 @@ module _ {n : ℕ} {table held : List ℕ} {x e d : ℕ} (t : Distant n table he
           }
 
       -- after the bay beside e comes e
-      pub leading-all : i + 1 ≡ d → i + 1 < length room → Led t (set (set room i u) (i + 1) e)
+      pub leading-all : i + 1 ≡ d → d < length room → Led t (set (set room i u) d e)
       leading-all h len =
           let one : d - i ≡ suc 0 = omega arith in
-          let long : d + 1 ≡ suc (suc i) = omega arith in
+          let long : d ≡ suc i = omega arith in
           let room' : List ℕ = set room i u in
-          let len' : suc i < length room' = rw (length-set room i u) (omega arith) in
+          let len' : d < length room' = rw (length-set room i u) len in
+          let first : take (d + 1) (set room' d e) ≡ take d room' ++ (e ∷ []) = rw (add-one, take-suc-set room' d e len') in
+          let last : take d room' ≡ take i room ++ (u ∷ []) = rw (long, take-suc-set room i u (omega arith)) in
           let p = next Y [] e 0 u (rw one at g.near) in
           let beside : joined Y u e ≡ true = rw (ring-zero Y [] Y.bays [] e p.bay p.nearer) at p.rail in
           let u-in = beside-near 0 e one beside here in
@@ -123,6 +120,5 @@ module _ {n : ℕ} {table held : List ℕ} {x e d : ℕ} (t : Distant n table he
           let whole = g.so_far (rw one u-in) in
           record {
             near = whole.0;
-            path = rw (long, add-one, take-suc-set room' (suc i) e len', take-suc-set room i u (omega arith))
-                (sym (whole.1 ∙ rw (one, s.goes_on, end, inward-zero, append_assoc)));
+            path = rw (first, last) (sym (whole.1 ∙ rw (one, s.goes_on, end, inward-zero, append_assoc)));
           }

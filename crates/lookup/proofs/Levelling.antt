@@ -7,7 +7,7 @@ use mathlib.Core.Bool.{true, false, not}
 use mathlib.Core.List.{List, [], ◌∷◌}
 use Prim.Native.Nat.{ℕ, zero, suc, ◌+◌, ◌*◌, ◌≤◌, ◌<◌}
 use native.Mathlib.Decide.{dec_lt}
-use native.Mathlib.Nat.{add-mul, mul-le-mul_right}
+use native.Mathlib.Nat.{mul-le-mul_right}
 use native.Mathlib.Numerals.{add-one}
 use native.Mathlib.Omega.{arith}
 use lib.ListN.{length}
@@ -29,14 +29,7 @@ use Rattle.levels.specs.Levels.{Levelled}
 
 -- ## Rows
 
--- row x of a level below k is in the table, if k levels are
-pub row_fits : (k n j x : ℕ) {size : ℕ} → k * n * words ≤ size → j < k → x < n → (j * n + x) * words + words ≤ size
-row_fits k n j x h l hx =
-    let m : (j + 1) * n ≤ k * n = mul-le-mul_right n (omega arith) in
-    let e : (j + 1) * n ≡ j * n + n = rw (add-mul j 1 n) (omega arith) in
-    omega arith
-
--- fewer levels are in it too
+-- if k levels are in the table, fewer are in it too
 pub fewer-fit : (k n j : ℕ) {size : ℕ} → k * n * words ≤ size → j ≤ k → j * n * words ≤ size
 fewer-fit k n j h l = let m : j * n ≤ k * n = mul-le-mul_right n l in omega arith
 

@@ -1,9 +1,10 @@
 -- Held bays only take ways away. So if a path that meets none of them is as short as the shortest with no bay held, no wanted bay is nearer than its
 -- end, and those as near are in the same level, from which it was taken.
 -- Assumes nothing.
-use mathlib.Core.Path.{◌≡◌, refl, sym, ap, ◌∙◌}
+use Rattle.std.proofs.Common.{Some}
+use mathlib.Core.Path.{◌≡◌, sym, ap, ◌∙◌}
 use mathlib.Core.Bool.{Bool, true, false, not}
-use mathlib.Core.List.{List, [], ◌∷◌}
+use mathlib.Core.List.{List, []}
 use mathlib.Core.Option.{some}
 use Prim.Native.Nat.{ℕ, ◌+◌, ◌*◌, ◌≤◌, ◌<◌}
 use native.Mathlib.Decide.{dec_lt}
@@ -13,7 +14,7 @@ use borrow.Author.Tests.{not-true}
 use Rattle.paper.specs.Basics.{◌and◌, up_to, In}
 use Rattle.paper.specs.Yard.{Bay, Yard}
 use Rattle.paper.specs.Path.{Free, nearest_of, shortest_path}
-use Rattle.paper.proofs.Tests.{by_cases, not-both, and_left, and_right, and_both, some_same, never}
+use Rattle.paper.proofs.Tests.{by_cases, not-both, and_left, and_right, and_both, some_same}
 use Rattle.paper.proofs.Rings.{Walk, walk-free, ring-walk}
 use Rattle.paper.proofs.Nearest.{nearest-chosen}
 use Rattle.paper.proofs.Shortest.{around-free}
@@ -24,23 +25,18 @@ use Rattle.choice.specs.Taking.{Rowed, Taken}
 use Rattle.choice.proofs.Taking.{taken-chosen}
 use Rattle.rings.specs.Search.{Shown, around}
 use Rattle.rings.specs.Ways.{WayFound}
-use Rattle.rings.specs.declared.Way.TheVariants as way
 use Rattle.rings.proofs.Between.{start-far, shortest-far}
 use Rattle.docket.specs.declared.Bay.{Bay as Held}
 use Rattle.levels.specs.Levels.{Levelled}
 use Rattle.first_level.specs.Reading.{FirstLevel}
 use Rattle.lookup.specs.Told.{Distant, Led, Told}
-use Rattle.lookup.specs.declared.Known.TheVariants.{To, Unknown}
 use Rattle.lookup.proofs.Levelling.{fewer-fit, walk_first, walk-plain, free-inside, inside, level-walk, walk-level, Far, far-short, far-ring}
 
 -- ## What is told
 
 module _ {n : ℕ} {table held : List ℕ} (s : Shown n table held) {x : Bay} {q : Bay → Bool} {room : List ℕ} where
-  pub untold : Told s x q room Unknown
-  untold e m k = never (cc)
-
-  told : {e : Held} {m : ℕ} → WayFound s x q room (way.To e m) → Told s x q room (To e m)
-  told {e} {m} f e' m' k = let y : e ≡ e' = cc in let z : m ≡ m' = cc in rw (y, z) at f
+  told : {e : Held} {m : ℕ} → WayFound s x q room (Some (e, m)) → Told s x q room (Some (e, m))
+  told f e' m' k = rw k at f
 
 -- ## The first level that has one of the bays
 
@@ -191,7 +187,7 @@ module _ {n : ℕ} {table held : List ℕ} (s : Shown n table held) {x : Bay} {w
           nearest-chosen Y s.bays x q (j + 1)
           (taken-chosen s.joins g.most q (around Y s.bays x (j + 1)) g.taken end_inside end-there passes among) early
 
-      pub way-told : (r : Held) → r.0 ≡ e → Told s x q room (To r (j + 2))
+      pub way-told : (r : Held) → r.0 ≡ e → Told s x q room (Some (r, (j + 2)))
       way-told r k = told s (record {
         nearest = ap some k ∙ sym end-first;
         fits = omega (arith, end_short);

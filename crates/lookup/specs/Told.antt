@@ -1,17 +1,15 @@
 -- What the levels of a table tell: the nearest of some bays and the shortest path to it, where the held bays make it no longer.
 -- Assumes nothing.
-use Rattle.std.specs.Prelude.{◌≡◌, Bool, true, false, List, [], ℕ, ◌+◌, ◌*◌, ◌≤◌, ◌<◌, length, take}
+use Rattle.std.specs.Prelude.{◌≡◌, Bool, true, false, List, [], ℕ, ◌+◌, ◌*◌, ◌≤◌, ◌<◌, length, take, Some}
 use Rattle.paper.specs.Basics.{In}
 use Rattle.paper.specs.Yard.{Bay}
 use Rattle.paper.specs.Path.{rings, inward}
 use Rattle.words.specs.Sets.{mem, words, span}
 use Rattle.rings.specs.Search.{Shown, around}
 use Rattle.rings.specs.Ways.{WayFound, WayAsks}
-use Rattle.rings.specs.declared.Way.TheVariants as way
 use Rattle.levels.specs.Levels.{Levelled}
 use Rattle.docket.specs.declared.Bay.{Bay as Held}
-use Rattle.lookup.specs.declared.Known.{Known}
-use Rattle.lookup.specs.declared.Known.TheVariants.{To}
+use Rattle.lookup.specs.Known.{Known}
 
 -- with no bay held, x is d rails from e
 pub record Distant (n : ℕ) (table held : List ℕ) (x e d : ℕ) : Type 0 where
@@ -27,7 +25,7 @@ pub record Led {n : ℕ} {table held : List ℕ} {x e d : ℕ} (t : Distant n ta
 
 -- what is told is the nearest bay of which q holds, and the shortest path to it
 abbrev pub Told : {n : ℕ} {table held : List ℕ} → Shown n table held → Bay → (Bay → Bool) → List ℕ → Known → Type 0
-Told s x q room r = (e : Held) (m : ℕ) → r ≡ To e m → WayFound s x q room (way.To e m)
+Told s x q room r = (e : Held) (m : ℕ) → r ≡ Some (e, m) → WayFound s x q room (Some (e, m))
 
 -- ## What is asked, what is said
 

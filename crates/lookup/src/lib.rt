@@ -6,13 +6,6 @@ ghost use Rattle.lookup.specs.Told.{LeadAsks, LeadSays, LookupAsks, LookupSays};
 
 use docket::Bay;
 
-// What the levels tell: the bay to which a way leads and the number of its bays; or nothing, and then it has to be searched for.
-#[derive(Clone, Copy)]
-pub enum Known {
-    To(Bay, usize),
-    Unknown,
-}
-
 // The path from x to e, d rails away with no bay held: each next bay is the lowest neighbour not held that is one rail nearer to e. Answers whether
 // there is one at each step.
 fn lead(table: &[u64], n: usize, held: &[u64], x: Bay, e: Bay, d: usize, path: &mut [u16]) -> bool
@@ -21,23 +14,28 @@ fn lead(table: &[u64], n: usize, held: &[u64], x: Bay, e: Bay, d: usize, path: &
 {
     let end = e.0 as usize;
     let mut u = x.0 as usize;
-    let mut i = 0;
-    while i + 1 < d {
+    for i in 0..d - 1 {
         path[i] = u as u16;
-        i += 1;
-        let row = ((d - 1 - i) * n + end) * words::WORDS;
+        let row = ((d - 2 - i) * n + end) * words::WORDS;
         u = words::lowest_free(table, u, &table[row..row + words::WORDS], held);
         if words::SPAN <= u {
             return false;
         }
     }
-    path[i] = u as u16;
-    path[i + 1] = e.0;
+    path[d - 1] = u as u16;
+    path[d] = e.0;
     true
 }
 
 // The shortest path from x to the nearest wanted bay, through bays not held, where the levels tell it.
-pub fn way(table: &[u64], n: usize, held: &[u64], x: Bay, wanted: &[u64], path: &mut [u16]) -> Known
+pub fn way(
+    table: &[u64],
+    n: usize,
+    held: &[u64],
+    x: Bay,
+    wanted: &[u64],
+    path: &mut [u16],
+) -> Option<(Bay, usize)>
     requires { LookupAsks n table.now held.now wanted.now path.old x.0 }
     ensures { LookupSays n table.now held.now wanted.now x.0 path.new result }
 {
@@ -46,11 +44,11 @@ pub fn way(table: &[u64], n: usize, held: &[u64], x: Bay, wanted: &[u64], path: 
     words::minus(&mut free, held);
     let j = first_level::first_level(table, n, x, &free);
     if table.len() < (j + 1) * n * words::WORDS {
-        return Known::Unknown;
+        return None;
     }
     let e = Bay(choice::common(table, table, j * n + x.0 as usize, &free, 0) as u16);
     if lead(table, n, held, x, e, j + 1, path) {
-        return Known::To(e, j + 2);
+        return Some((e, j + 2));
     }
-    Known::Unknown
+    None
 }

@@ -5,15 +5,13 @@
 #![tactic(auto)]
 
 use bills::Record;
-use cases::{first8, first16, first64};
+use cases::first;
 use docket::{Crossing, Refusal};
 use held_lines::HeldLines;
 use ledger::{Accounts, Agreement};
 use marks::Reported;
-use plans::Named;
 use settling::Settlement;
 use std::io;
-use std::num::wrapping_add_u64;
 use yard::Yard;
 
 // The numbers of the line's dice: Marsaglia's xorshift.
@@ -49,31 +47,21 @@ struct Day {
     books: Books,
 }
 
+// The next number, but none past 2^32 - 1.
 fn more(n: u64) -> u64 {
     if n < 4294967295 { n + 1 } else { n }
 }
 
 // The lowest place of a list, from `at` on, that is not 1.
 fn lowest_open(known: &[u8; 1024], at: usize) -> usize {
-    let mut i = at;
-    while i < known.len() {
-        if known[i] != 1 {
-            return i;
-        }
-        i += 1;
-    }
-    known.len()
+    (at..known.len())
+        .find(|i| known[*i] != 1)
+        .unwrap_or(known.len())
 }
 
 // The answer of a done name comes back, or is lost: then the name is reported again.
 fn hear(known: &mut [u8; 1024], name: usize, answer: Reported, dice: u64) {
-    if !is_done(answer) {
-        return;
-    }
-    if dice / 64 % 3 == 0 {
-        return;
-    }
-    if name < 1024 {
+    if is_done(answer) && dice / 64 % 3 != 0 && name < 1024 {
         known[name] = 1;
     }
 }
@@ -92,59 +80,36 @@ fn keep(got: &mut [u64], at: usize, name: usize) -> usize {
 fn after(line: Line, answer: Reported, name: usize, got: &mut [u64]) -> Line {
     match answer {
         Reported::Accepted => Line {
-            dice: line.dice,
-            lowest: line.lowest,
             accepted: keep(got, line.accepted, name),
-            lost: line.lost,
-            early: line.early,
-            repeated: line.repeated,
+            ..line
         },
         Reported::Already => Line {
-            dice: line.dice,
-            lowest: line.lowest,
-            accepted: line.accepted,
-            lost: line.lost,
-            early: line.early,
             repeated: more(line.repeated),
+            ..line
         },
         Reported::Refused(_) => Line {
-            dice: line.dice,
-            lowest: line.lowest,
-            accepted: line.accepted,
-            lost: line.lost,
             early: more(line.early),
-            repeated: line.repeated,
+            ..line
         },
     }
 }
 
 fn is_done(answer: Reported) -> bool {
-    match answer {
-        Reported::Accepted => true,
-        Reported::Already => true,
-        Reported::Refused(_) => false,
-    }
+    matches!(answer, Reported::Accepted | Reported::Already)
 }
 
 fn rolled(line: Line, lowest: usize) -> Line {
     Line {
         dice: roll(line.dice),
         lowest,
-        accepted: line.accepted,
-        lost: line.lost,
-        early: line.early,
-        repeated: line.repeated,
+        ..line
     }
 }
 
 fn lost(line: Line) -> Line {
     Line {
-        dice: line.dice,
-        lowest: line.lowest,
-        accepted: line.accepted,
         lost: more(line.lost),
-        early: line.early,
-        repeated: line.repeated,
+        ..line
     }
 }
 
@@ -159,25 +124,17 @@ fn pick(line: Line) -> usize {
 }
 
 fn is_agreed(answer: Agreement) -> bool {
-    match answer {
-        Agreement::Agrees => true,
-        Agreement::Differs => false,
-        Agreement::Refused(_) => false,
-    }
+    matches!(answer, Agreement::Agrees)
 }
 
 // The lines with the one that a report changed; none, where its place is past the last.
 fn entered(held: HeldLines, told: Settlement) -> HeldLines {
     let at = told.at;
-    if held.count <= at {
+    if held.count <= at || Yard::BAYS <= at {
         return held;
     }
-    if Yard::BAYS <= at {
-        return held;
-    }
-    let line = told.line;
     let mut lines = held.lines;
-    lines[at] = line;
+    lines[at] = told.line;
     held_lines::hold(held.count, lines)
 }
 
@@ -201,8 +158,7 @@ fn keep_books(
     told: Settlement,
 ) -> Books {
     let running = told.running;
-    let before = books.held;
-    let held = entered(before, told);
+    let held = entered(books.held, told);
     let accounts = Accounts { running, held };
     let agreed = ledger::compare(bays, rails, start, goal, plan, marks, accounts);
     Books {
@@ -232,14 +188,14 @@ fn send(
         };
     }
     let name = pick(line);
-    let running = books.running;
-    let held = books.held;
-    let accounts = Accounts { running, held };
+    let accounts = Accounts {
+        running: books.running,
+        held: books.held,
+    };
     let told = ledger::report(bays, rails, start, goal, plan, marks, name as u64, accounts);
-    let answer = told.answer;
-    hear(known, name, answer, line.dice);
+    hear(known, name, told.answer, line.dice);
     Day {
-        line: after(line, answer, name, got),
+        line: after(line, told.answer, name, got),
         books: keep_books(bays, rails, start, goal, plan, marks, books, told),
     }
 }
@@ -253,30 +209,22 @@ fn open_books(
     plan: &[u64],
     marks: &[u8],
 ) -> Books {
-    let at = [0u16; Yard::BAYS];
     let blank = Record {
-        at,
+        at: [0u16; Yard::BAYS],
         done: 0,
         highest: 0,
     };
     let opening = ledger::open(bays, rails, start, goal, plan, marks, blank, start.len());
-    let running = opening.running;
-    let held = opening.held;
     Books {
-        running,
-        held,
+        running: opening.running,
+        held: opening.held,
         differed: 0,
     }
 }
 
 // The same record, with so many done.
 fn tampered(running: Record, done: u32) -> Record {
-    let at = running.at;
-    Record {
-        at,
-        done,
-        highest: running.highest,
-    }
+    Record { done, ..running }
 }
 
 fn show_tampered(
@@ -285,13 +233,7 @@ fn show_tampered(
     done: u32,
     agreed: Agreement,
 ) -> io::Result<()> {
-    let Reported::Refused(r) = answer else {
-        return Ok(());
-    };
-    let Refusal::Disagrees = r else {
-        return Ok(());
-    };
-    if done == 1 && is_agreed(agreed) {
+    if matches!(answer, Reported::Refused(Refusal::Disagrees)) && done == 1 && is_agreed(agreed) {
         println!(rt; "tampered record refused 19, nothing changed")?;
     }
     Ok(())
@@ -308,23 +250,17 @@ fn tamper(
     marks: &mut [u8],
     books: Books,
 ) -> io::Result<()> {
-    let running = books.running;
-    let held = books.held;
     let accounts = Accounts {
-        running: tampered(running, 1),
-        held,
+        running: tampered(books.running, 1),
+        held: books.held,
     };
     let told = ledger::report(bays, rails, start, goal, plan, marks, 0, accounts);
-    let answer = told.answer;
-    let then = told.running;
-    let left = entered(held, told);
-    let mended = tampered(then, 0);
     let accounts = Accounts {
-        running: mended,
-        held: left,
+        running: tampered(told.running, 0),
+        held: entered(books.held, told),
     };
     let agreed = ledger::compare(bays, rails, start, goal, plan, marks, accounts);
-    show_tampered(rt, answer, then.done, agreed)
+    show_tampered(rt, told.answer, told.running.done, agreed)
 }
 
 // A day on the line.
@@ -348,62 +284,29 @@ fn run(
         early: 0,
         repeated: 0,
     };
-    let mut turn: u64 = 0;
-    while turn < 20000 {
+    for _ in 0..20000 {
         let next = rolled(line, lowest_open(&known, line.lowest));
         let day = send(
             bays, rails, start, goal, plan, marks, got, &mut known, next, books,
         );
         line = day.line;
         books = day.books;
-        turn += 1;
     }
     Day { line, books }
 }
 
 // Whether a rail joins a and b.
 fn joins(rails: &[u16], a: u16, b: u16) -> bool {
-    let mut i = 1;
-    while i < rails.len() {
-        if rails[i - 1] == a && rails[i] == b {
-            return true;
-        }
-        if rails[i - 1] == b && rails[i] == a {
-            return true;
-        }
-        i += 2;
-    }
-    false
-}
-
-// Whether some carrier stands at bay b.
-fn stands(at: &[u16], b: u16) -> bool {
-    let mut c = 0;
-    while c < at.len() {
-        if at[c] == b {
-            return true;
-        }
-        c += 1;
-    }
-    false
+    rails.chunks_exact(2).any(|ends| ends == [a, b].as_slice() || ends == [b, a].as_slice())
 }
 
 // Plays a crossing and bills it, if it is legal.
 fn play(rails: &[u16], at: &mut [u16], bills: &mut [u64], x: Crossing) -> bool {
     let c = x.carrier.0 as usize;
-    if at.len() <= c {
+    if at.len() <= c || bills.len() <= c {
         return false;
     }
-    if bills.len() <= c {
-        return false;
-    }
-    if at[c] != x.from.0 {
-        return false;
-    }
-    if !joins(rails, x.from.0, x.to.0) {
-        return false;
-    }
-    if stands(at, x.to.0) {
+    if at[c] != x.from.0 || !joins(rails, x.from.0, x.to.0) || at.contains(&x.to.0) {
         return false;
     }
     at[c] = x.to.0;
@@ -414,18 +317,16 @@ fn play(rails: &[u16], at: &mut [u16], bills: &mut [u64], x: Crossing) -> bool {
 // How many of the accepted crossings were not legal in their turn.
 fn play_all(rails: &[u16], plan: &[u64], got: &[u64], at: &mut [u16], bills: &mut [u64]) -> u64 {
     let mut illegal = 0;
-    let mut i = 0;
-    while i < got.len() {
-        if !play_named(rails, plan, got[i], at, bills) {
+    for name in got {
+        if !play_named(rails, plan, *name, at, bills) {
             illegal = more(illegal);
         }
-        i += 1;
     }
     illegal
 }
 
 fn play_named(rails: &[u16], plan: &[u64], name: u64, at: &mut [u16], bills: &mut [u64]) -> bool {
-    let Named::Crossing(x) = plans::find(plan, name) else {
+    let Some(x) = plans::find(plan, name) else {
         return false;
     };
     play(rails, at, bills, x)
@@ -434,16 +335,10 @@ fn play_named(rails: &[u16], plan: &[u64], name: u64, at: &mut [u16], bills: &mu
 // How many carriers are not at their goals.
 fn away(at: &[u16], goal: &[u16]) -> u64 {
     let mut n = 0;
-    let mut c = 0;
-    while c < goal.len() {
-        if at.len() <= c {
+    for (c, bay) in goal.iter().enumerate() {
+        if at.get(c) != Some(bay) {
             n = more(n);
-        } else {
-            if at[c] != goal[c] {
-                n = more(n);
-            }
         }
-        c += 1;
     }
     n
 }
@@ -451,12 +346,10 @@ fn away(at: &[u16], goal: &[u16]) -> u64 {
 // How many crossings of the plan are the carrier's.
 fn due(plan: &[u64], carrier: usize) -> u64 {
     let mut n = 0;
-    let mut i = 0;
-    while i < plan.len() {
-        if plan[i] / 4294967296 == carrier as u64 {
+    for x in plan {
+        if *x / 4294967296 == carrier as u64 {
             n = more(n);
         }
-        i += 1;
     }
     n
 }
@@ -464,12 +357,10 @@ fn due(plan: &[u64], carrier: usize) -> u64 {
 // How many carriers are billed another number than the plan's.
 fn wrong(plan: &[u64], bills: &[u64]) -> u64 {
     let mut n = 0;
-    let mut c = 0;
-    while c < bills.len() {
-        if bills[c] != due(plan, c) {
+    for (c, billed) in bills.iter().enumerate() {
+        if *billed != due(plan, c) {
             n = more(n);
         }
-        c += 1;
     }
     n
 }
@@ -496,7 +387,7 @@ fn show(
 // The carriers at their starts, if there is room for all of them.
 fn place(start: &[u16], at: &mut [u16]) {
     if start.len() <= at.len() {
-        copies::shorts(at, start);
+        at[..start.len()].copy_from_slice(start);
     }
 }
 
@@ -554,12 +445,8 @@ fn run_marked(
     got: &mut [u64],
 ) -> io::Result<Day> {
     let mut marks = [0u8; 1024];
-    let n = plan.len();
-    if n <= 1024 {
-        keep_day(rt, bays, rails, start, goal, plan, &mut marks[..n], got)
-    } else {
-        keep_day(rt, bays, rails, start, goal, plan, &mut marks, got)
-    }
+    let n = plan.len().min(marks.len());
+    keep_day(rt, bays, rails, start, goal, plan, &mut marks[..n], got)
 }
 
 // A carrier's line, and how many crossings are billed to it.
@@ -576,22 +463,18 @@ fn show_line(rt: &impl Print, held: HeldLines, c: usize) -> io::Result<u64> {
 
 // Each carrier's line, and how many crossings are billed in all.
 fn show_lines(rt: &impl Print, held: HeldLines) -> io::Result<u64> {
-    let mut sum = 0;
-    let mut c = 0;
-    while c < held.count {
-        sum = wrapping_add_u64(sum, show_line(rt, held, c)?);
-        c += 1;
+    let mut sum: u64 = 0;
+    for c in 0..held.count {
+        sum = sum.wrapping_add(show_line(rt, held, c)?);
     }
     Ok(sum)
 }
 
 fn show_books(rt: &impl Print, books: Books, plan: &[u64]) -> io::Result<()> {
-    let running = books.running;
-    let held = books.held;
     say(rt, "disagreed ", books.differed)?;
-    say(rt, "done ", running.done as u64)?;
-    say(rt, "highest slot ", running.highest as u64)?;
-    put(rt, "billed ", show_lines(rt, held)?)?;
+    say(rt, "done ", u64::from(books.running.done))?;
+    say(rt, "highest slot ", u64::from(books.running.highest))?;
+    put(rt, "billed ", show_lines(rt, books.held)?)?;
     say(rt, " of ", plan.len() as u64)
 }
 
@@ -606,18 +489,9 @@ fn simulate(
 ) -> io::Result<()> {
     let mut got = [0u64; 1024];
     let day = run_marked(rt, bays, rails, start, goal, plan, &mut got)?;
-    let line = day.line;
-    let books = day.books;
-    settle(
-        rt,
-        line,
-        rails,
-        start,
-        goal,
-        plan,
-        first64(&got, line.accepted),
-    )?;
-    show_books(rt, books, plan)
+    let accepted = first(&got, day.line.accepted);
+    settle(rt, day.line, rails, start, goal, plan, accepted)?;
+    show_books(rt, day.books, plan)
 }
 
 fn read(rt: &impl Print, text: &[u8]) -> io::Result<()> {
@@ -626,17 +500,17 @@ fn read(rt: &impl Print, text: &[u8]) -> io::Result<()> {
     let mut goal = [0u16; 256];
     let mut plan = [0u64; 1024];
     let bays = cases::number(text, 0);
-    let a = cases::list16(text, bays.next, &mut rails);
-    let b = cases::list16(text, a.next, &mut start);
-    let c = cases::list16(text, b.next, &mut goal);
-    let d = cases::list64(text, c.next, &mut plan);
+    let a = cases::list(text, bays.next, &mut rails);
+    let b = cases::list(text, a.next, &mut start);
+    let c = cases::list(text, b.next, &mut goal);
+    let d = cases::list(text, c.next, &mut plan);
     simulate(
         rt,
         bays.value,
-        first16(&rails, a.count),
-        first16(&start, b.count),
-        first16(&goal, c.count),
-        first64(&plan, d.count),
+        first(&rails, a.count),
+        first(&start, b.count),
+        first(&goal, c.count),
+        first(&plan, d.count),
     )
 }
 
@@ -651,5 +525,5 @@ fn say(rt: &impl Print, words: &str, n: u64) -> io::Result<()> {
 fn main(rt: HostRuntime) -> io::Result<()> {
     let mut text = [0u8; 8192];
     let size = cases::load(&rt, "plan", &mut text)?;
-    read(&rt, first8(&text, size))
+    read(&rt, first(&text, size))
 }

@@ -21,7 +21,6 @@ use Rattle.plans.proofs.Rest.{rest-next, rest-none, fits-named}
 
 -- The tables are 1 at each carrier and bay that an undone crossing among the first `i` has touched.
 pub record Ordering (plan marks carriers bays : List ℕ) (i : ℕ) : Type 0 where
-  pub within : i ≤ length plan
   pub all-carriers : length carriers ≡ most_bays
   pub all-bays : length bays ≡ most_bays
   pub so_far : out_of_order (crossings plan) marks ≡ order_pass (flag carriers) (flag bays) (drop i (crossings plan)) (drop i marks)
@@ -37,7 +36,6 @@ module _ (plan marks carriers bays : List ℕ) (i : ℕ) (o : Ordering plan mark
   ordering-undone u =
       let small = fits-named most_bays most_bays plan fits i more x is in
       record {
-        within = omega arith;
         all-carriers = length-set carriers x.carrier 1 ∙ o.all-carriers;
         all-bays = length-set (set bays x.from 1) x.to 1 ∙ length-set bays x.from 1 ∙ o.all-bays;
         so_far =
@@ -53,7 +51,6 @@ module _ (plan marks carriers bays : List ℕ) (i : ℕ) (o : Ordering plan mark
   pub ordering-done : m ≡ 1 → (flag carriers x.carrier or flag bays x.from or flag bays x.to) ≡ false → Ordering plan marks carriers bays (i + 1)
   unfolding ◌or◌
   ordering-done e f = record {
-    within = omega arith;
     all-carriers = o.all-carriers;
     all-bays = o.all-bays;
     so_far = rw (add-one i) (done-turn e ∙ ap (λ v. v or order_pass (flag carriers) (flag bays) (drop (suc i) (crossings plan)) (drop (suc i) marks)) f);
@@ -69,7 +66,6 @@ untouched j h = ap (λ v. eqb v 1) (get_or-replicate {A = ℕ} most_bays j 0 0 h
 module _ (plan marks : List ℕ) (len : length marks ≡ length plan) (fits : Fits most_bays most_bays plan) where
   pub ordering-start : (i : ℕ) → i ≤ length plan → ((k : ℕ) → k < i → get_or marks k 0 ≡ 1) → Ordering plan marks (replicate most_bays 0) (replicate most_bays 0) i
   ordering-start zero h d = record {
-    within = h;
     all-carriers = length-replicate {A = ℕ} most_bays 0;
     all-bays = length-replicate {A = ℕ} most_bays 0;
     so_far = order-start most_bays most_bays (crossings plan) marks;

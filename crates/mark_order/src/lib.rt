@@ -18,13 +18,7 @@ fn touched(carriers: &[u8; BAYS], bays: &[u8; BAYS], carrier: usize, from: usize
     requires { (carrier < most_bays) × (from < most_bays) × (to < most_bays) }
     ensures { result ≡ flag carriers.now carrier or flag bays.now from or flag bays.now to }
 {
-    if carriers[carrier] == 1 {
-        return true;
-    }
-    if bays[from] == 1 {
-        return true;
-    }
-    bays[to] == 1
+    carriers[carrier] == 1 || bays[from] == 1 || bays[to] == 1
 }
 
 // How many marks are looked at together.
@@ -36,10 +30,8 @@ fn all_done(marks: &[u8], from: usize, to: usize) -> bool
     ensures { result ≡ true → (i : ℕ) → from ≤ i → i < to → get_or marks.now i 0 ≡ 1 }
 {
     let mut all = true;
-    let mut i = from;
-    while i < to {
-        all = all & (marks[i] == 1);
-        i += 1;
+    for i in from..to {
+        all &= marks[i] == 1;
     }
     all
 }
@@ -48,14 +40,14 @@ fn all_done(marks: &[u8], from: usize, to: usize) -> bool
 pub fn done_to(marks: &[u8]) -> usize
     ensures { (result ≤ length marks.now) × ((i : ℕ) → i < result → get_or marks.now i 0 ≡ 1) }
 {
-    let mut i = 0;
-    while BLOCK <= marks.len() - i {
-        if !all_done(marks, i, i + BLOCK) {
-            return i;
+    let blocks = marks.len() / BLOCK;
+    for block in 0..blocks {
+        let from = block * BLOCK;
+        if !all_done(marks, from, from + BLOCK) {
+            return from;
         }
-        i += BLOCK;
     }
-    i
+    blocks * BLOCK
 }
 
 // Whether a crossing is marked done before an earlier one it depends on. None is while all before it are done.
@@ -65,8 +57,7 @@ fn order_pass(plan: &[u64], marks: &[u8]) -> bool
 {
     let mut carriers: [u8; BAYS] = [0; BAYS];
     let mut bays: [u8; BAYS] = [0; BAYS];
-    let mut i = done_to(marks);
-    while i < plan.len() {
+    for i in done_to(marks)..plan.len() {
         let x = plans::crossing_at(plan, i);
         let carrier = x.carrier.0 as usize;
         let from = x.from.0 as usize;
@@ -80,7 +71,6 @@ fn order_pass(plan: &[u64], marks: &[u8]) -> bool
             bays[from] = 1;
             bays[to] = 1;
         }
-        i += 1;
     }
     false
 }
@@ -90,10 +80,8 @@ fn odd_mark(marks: &[u8]) -> bool
     ensures { result ≡ any (λ m. not (eqb m 0 or eqb m 1)) marks.now }
 {
     let mut odd = false;
-    let mut i = 0;
-    while i < marks.len() {
-        odd = odd | (marks[i] > 1);
-        i += 1;
+    for mark in marks {
+        odd |= *mark > 1;
     }
     odd
 }
@@ -103,11 +91,5 @@ pub fn bad_marks(plan: &[u64], marks: &[u8]) -> bool
     requires { Fits most_bays most_bays plan.now }
     ensures { result ≡ bad_marks (crossings plan.now) marks.now }
 {
-    if marks.len() != plan.len() {
-        return true;
-    }
-    if odd_mark(marks) {
-        return true;
-    }
-    order_pass(plan, marks)
+    marks.len() != plan.len() || odd_mark(marks) || order_pass(plan, marks)
 }

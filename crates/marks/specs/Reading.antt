@@ -1,6 +1,6 @@
 -- How the code's answers read as the paper's, and what a report answers from refusal 12 on.
 -- Assumes nothing.
-use Rattle.std.specs.Prelude.{List, ℕ, if◌then◌else◌}
+use Rattle.std.specs.Prelude.{List, ℕ, if◌then◌else◌, None, Some}
 use Rattle.std.proofs.Math.Option.{Option, none, some}
 use Rattle.paper.specs.Basics.{if_some◌then◌else◌}
 use Rattle.paper.specs.Yard.{Crossing}
@@ -8,14 +8,13 @@ use Rattle.paper.specs.Dependence.{is_done}
 use Rattle.paper.specs.Docket.{no_12, no_13}
 use Rattle.paper.specs.Answers.{Report, accept, already, refuse}
 use Rattle.docket.specs.Reading.{refusal_of}
-use Rattle.marks.specs.declared.Earlier.{Earlier}
-use Rattle.marks.specs.declared.Earlier.TheVariants.{Undone, AllDone}
+use Rattle.marks.specs.Earlier.{Earlier}
 use Rattle.marks.specs.declared.Reported.{Reported}
 use Rattle.marks.specs.declared.Reported.TheVariants.{Accepted, Already, Refused}
 
 abbrev pub earlier_of : Earlier → Option ℕ
-earlier_of (Undone e) = some e
-earlier_of AllDone = none
+earlier_of (Some e) = some e
+earlier_of None = none
 
 abbrev pub report_of : Reported → Report
 report_of Accepted = accept

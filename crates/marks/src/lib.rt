@@ -12,32 +12,16 @@ ghost use Rattle.docket.specs.Reading.{crossing_of};
 ghost use Rattle.marks.specs.Reading.{earlier_of, report_of, told_in_order};
 
 use docket::{Crossing, Refusal};
-use plans::Named;
 
 // Whether two crossings depend on each other: the same carrier, or a bay that both touch.
 fn depends(x: Crossing, y: Crossing) -> bool
     ensures { result ≡ depend (crossing_of x) (crossing_of y) }
 {
-    if x.carrier.0 == y.carrier.0 {
-        return true;
-    }
-    if x.from.0 == y.from.0 {
-        return true;
-    }
-    if x.from.0 == y.to.0 {
-        return true;
-    }
-    if x.to.0 == y.from.0 {
-        return true;
-    }
-    x.to.0 == y.to.0
-}
-
-// The earlier crossings that a crossing depends on: the lowest name among the undone ones, or none is undone.
-#[derive(Clone, Copy)]
-enum Earlier {
-    Undone(u64),
-    AllDone,
+    x.carrier.0 == y.carrier.0
+        || x.from.0 == y.from.0
+        || x.from.0 == y.to.0
+        || x.to.0 == y.from.0
+        || x.to.0 == y.to.0
 }
 
 // Whether x depends on the crossing e and that is undone. Most are done, so the mark is asked first.
@@ -45,30 +29,21 @@ fn waits_for(plan: &[u64], marks: &[u8], x: Crossing, e: usize) -> bool
     requires { (e < length plan.now) × (length marks.now ≡ length plan.now) }
     ensures { result ≡ depend (crossing_of x) (named (crossings plan.now) e) and not (is_done marks.now e) }
 {
-    if marks[e] == 1 {
-        return false;
-    }
-    depends(x, plans::crossing_at(plan, e))
+    marks[e] != 1 && depends(x, plans::crossing_at(plan, e))
 }
 
 // Of the crossings before `name`, the lowest that x depends on and that is undone: going up, from a place before which all are done, the first that is
 // found ends the search.
-fn undone_before(plan: &[u64], marks: &[u8], x: Crossing, name: usize) -> Earlier
+fn undone_before(plan: &[u64], marks: &[u8], x: Crossing, name: usize) -> Option<u64>
     requires { (name ≤ length plan.now) × (length marks.now ≡ length plan.now) }
     ensures { earlier_of result ≡ find (λ e. depend (crossing_of x) (named (crossings plan.now) e) and not (is_done marks.now e)) (up_to name) }
 {
-    let mut lowest = name;
-    let mut e = mark_order::done_to(marks);
-    while e < lowest {
+    for e in mark_order::done_to(marks)..name {
         if waits_for(plan, marks, x, e) {
-            lowest = e;
+            return Some(e as u64);
         }
-        e += 1;
     }
-    if lowest < name {
-        return Earlier::Undone(lowest as u64);
-    }
-    Earlier::AllDone
+    None
 }
 
 // What a report answers.
@@ -84,7 +59,7 @@ pub fn tell_in_order(plan: &[u64], marks: &[u8], name: u64) -> Reported
     requires { length marks.now ≡ length plan.now }
     ensures { report_of result ≡ told_in_order (crossings plan.now) marks.now name }
 {
-    let Named::Crossing(x) = plans::find(plan, name) else {
+    let Some(x) = plans::find(plan, name) else {
         return Reported::Refused(Refusal::Unknown);
     };
     let at = name as usize;
@@ -93,8 +68,8 @@ pub fn tell_in_order(plan: &[u64], marks: &[u8], name: u64) -> Reported
     }
     let earlier = undone_before(plan, marks, x, at);
     match earlier {
-        Earlier::Undone(e) => Reported::Refused(Refusal::Early(e)),
-        Earlier::AllDone => Reported::Accepted,
+        Some(e) => Reported::Refused(Refusal::Early(e)),
+        None => Reported::Accepted,
     }
 }
 

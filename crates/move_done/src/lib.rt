@@ -12,13 +12,11 @@ pub fn move_done(plan: &[u64], marks: &[u8], at: &mut [u16])
     requires { (length marks.now ≡ length plan.now) × Fits (length at.old) most_bays plan.now }
     ensures { at.new ≡ after at.old (done_of (crossings plan.now) marks.now) }
 {
-    let mut i = 0;
-    while i < plan.len() {
+    for i in 0..plan.len() {
         if marks[i] == 1 {
             let x = plans::crossing_at(plan, i);
             let carrier = x.carrier.0 as usize;
             at[carrier] = x.to.0;
         }
-        i += 1;
     }
 }

@@ -92,12 +92,10 @@ fn shift_stretch(
     }
     let last = path.len() - 1;
     let mut count = at;
-    let mut i = last;
-    while 0 < i {
-        let to = path[i];
-        i -= 1;
-        let from = path[i];
-        count = move_on(placement, standing, Bay(from), Bay(to), out, count);
+    for i in (0..last).rev() {
+        let from = Bay(path[i]);
+        let to = Bay(path[i + 1]);
+        count = move_on(placement, standing, from, to, out, count);
     }
     standing[path[0] as usize] = placement.len() as u16;
     words::remove(empty, path[last] as usize);

@@ -1,6 +1,7 @@
 -- Ring by ring, each ring rising, is nearest first with ties to the lowest: so the first bay that fits is the paper's, and its trial is
 -- the swap.
 -- Assumes nothing.
+use Rattle.std.proofs.Common.{None, Some}
 use mathlib.Core.Path.{◌≡◌, sym, ◌∙◌, ap, refl}
 use mathlib.Core.Bool.{Bool, true, false}
 use mathlib.Core.List.{List, [], ◌∷◌}
@@ -24,12 +25,11 @@ use Rattle.rings.proofs.Searching.{in-yard}
 use Rattle.moving.specs.Bounds.{swap_most}
 use Rattle.acting.specs.Acting.{Tabled, nothing, Within}
 use Rattle.acting.specs.declared.Tally.{Tally}
-use Rattle.acting.specs.declared.Tried.{Tried}
+use Rattle.acting.specs.Tried.{Tried}
 use Rattle.trial.specs.FromBelow.{Logged, Attempts}
 use Rattle.trial.proofs.Attempting.{attempts-none, attempts-some}
 use Rattle.trial.specs.Trying.{Beside, Near}
 use Rattle.trial.proofs.Copying.{free_shown}
-use Rattle.acting.specs.declared.Tried.TheVariants.{Done, Failed}
 use Rattle.near.specs.Seeking.{fitting, TriedAt, NoneNear, NearSays}
 use Rattle.near.specs.declared.Nearby.TheVariants.{Found, Farther, Nowhere}
 
@@ -50,11 +50,11 @@ unfolding swap
 swap-found Y r s p = first_found Y r s p (nearest_first Y [] (bay_of p r))
 
 module _ (Y : Yard) (r s : Carrier) (p : Placement) where
-  pub swap-none : {log : List ℕ} → none ≡ find (fitting Y r s p) (nearest_first Y [] (bay_of p r)) → Attempts (swap Y r s p) log Failed
+  pub swap-none : {log : List ℕ} → none ≡ find (fitting Y r s p) (nearest_first Y [] (bay_of p r)) → Attempts (swap Y r s p) log None
   swap-none f = attempts-none (swap-found Y r s p ∙ rw (← f))
 
   pub swap-some : {v : Bay} {log : List ℕ} {m : Tally} → some v ≡ find (fitting Y r s p) (nearest_first Y [] (bay_of p r)) → (made : Made) × (trial Y r s v p ≡ some made) × Logged made log m
-      → Attempts (swap Y r s p) log (Done m)
+      → Attempts (swap Y r s p) log (Some m)
   swap-some f q = attempts-some (swap-found Y r s p ∙ rw (← f) q.1) q.2
 
 pub fitting-not : (Y : Yard) (r s : Carrier) (p : Placement) (v : Bay) → junction Y v ≡ false → fitting Y r s p v ≡ false
@@ -80,11 +80,11 @@ tried-at Y r s v p log j w = record {
 }
 
 -- a bay that is no junction is not tried
-pub tried-not : (Y : Yard) (r s : Carrier) (v : Bay) (p log : List ℕ) → junction Y v ≡ false → TriedAt Y r s v p log Failed
+pub tried-not : (Y : Yard) (r s : Carrier) (v : Bay) (p log : List ℕ) → junction Y v ≡ false → TriedAt Y r s v p log None
 tried-not Y r s v p log j = record { fails = λ e. fitting-not Y r s p v j; fits = λ m e. never (cc); logged = λ m e. never (cc) }
 
 -- a trial that is bound to fail is not made
-pub tried-never : (Y : Yard) (r s : Carrier) (v : Bay) (p log : List ℕ) → trial Y r s v p ≡ none → TriedAt Y r s v p log Failed
+pub tried-never : (Y : Yard) (r s : Carrier) (v : Bay) (p log : List ℕ) → trial Y r s v p ≡ none → TriedAt Y r s v p log None
 tried-never Y r s v p log h = record { fails = λ e. fitting-failed Y r s v p h; fits = λ m e. never (cc); logged = λ m e. never (cc) }
 
 -- ## Ring by ring
@@ -194,8 +194,8 @@ near_of b i = record { sound = b.sound; reached = i; beside = b.beside }
 
 -- ## What is said
 
-pub near-found : {r s : Carrier} {table p standing log : List ℕ} {m : Tally} → Within nothing swap_most (Done m)
-    → ((t : Tabled (length standing) table) → Beside t.yard r s p → Attempts (swap t.yard r s p) log (Done m)) → NearSays r s table p standing log (Found m)
+pub near-found : {r s : Carrier} {table p standing log : List ℕ} {m : Tally} → Within nothing swap_most (Some m)
+    → ((t : Tabled (length standing) table) → Beside t.yard r s p → Attempts (swap t.yard r s p) log (Some m)) → NearSays r s table p standing log (Found m)
 near-found {m = m} few f = record {
   few = λ k e. let same : m ≡ k = cc in rw same at few;
   found = λ k e. let same : m ≡ k = cc in rw same at f;
@@ -213,5 +213,5 @@ near-farther k f = record {
 }
 
 pub near-nowhere : {r s : Carrier} {table p standing log : List ℕ}
-    → ((t : Tabled (length standing) table) → Beside t.yard r s p → Attempts (swap t.yard r s p) log Failed) → NearSays r s table p standing log Nowhere
+    → ((t : Tabled (length standing) table) → Beside t.yard r s p → Attempts (swap t.yard r s p) log None) → NearSays r s table p standing log Nowhere
 near-nowhere f = record { few = λ m e. never (cc); found = λ m e. never (cc); farther = λ j e. never (cc); nowhere = λ e. f }

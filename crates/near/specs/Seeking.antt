@@ -1,6 +1,6 @@
 -- The junction of a swap in code: which junctions fit, and what is said of the first that does, near or far.
 -- Assumes nothing.
-use Rattle.std.specs.Prelude.{◌≡◌, Bool, true, false, List, [], ℕ, ◌<◌, length, get_or}
+use Rattle.std.specs.Prelude.{◌≡◌, Bool, true, false, List, [], ℕ, ◌<◌, length, get_or, None, Some}
 use Rattle.std.proofs.Math.Option.{none, some}
 use Rattle.paper.specs.Basics.{◌and◌, In}
 use Rattle.paper.specs.Path.{rings}
@@ -10,8 +10,7 @@ use Rattle.docket.specs.Reading.{is_some}
 use Rattle.moving.specs.Bounds.{swap_most}
 use Rattle.acting.specs.Acting.{Tabled, nothing, Within}
 use Rattle.acting.specs.declared.Tally.{Tally}
-use Rattle.acting.specs.declared.Tried.{Tried}
-use Rattle.acting.specs.declared.Tried.TheVariants.{Done, Failed}
+use Rattle.acting.specs.Tried.{Tried}
 use Rattle.trial.specs.FromBelow.{Logged, Attempts}
 use Rattle.trial.specs.Trying.{Beside, SideBySide, Nears, tries}
 use Rattle.trial.specs.declared.Trial.{Trial}
@@ -24,9 +23,9 @@ fitting Y r s p v = junction Y v and is_some (trial Y r s v p)
 
 -- the trial at v was logged, and v fits; or it does not fit
 pub record TriedAt (Y : Yard) (r s : Carrier) (v : Bay) (p : Placement) (log : List ℕ) (z : Tried) : Type 0 where
-  pub fails : z ≡ Failed → fitting Y r s p v ≡ false
-  pub fits : (m : Tally) → z ≡ Done m → fitting Y r s p v ≡ true
-  pub logged : (m : Tally) → z ≡ Done m → (made : Made) × (trial Y r s v p ≡ some made) × Logged made log m
+  pub fails : z ≡ None → fitting Y r s p v ≡ false
+  pub fits : (m : Tally) → z ≡ Some m → fitting Y r s p v ≡ true
+  pub logged : (m : Tally) → z ≡ Some m → (made : Made) × (trial Y r s v p ≡ some made) × Logged made log m
 
 -- r and its neighbour s
 pub record SeekAsks (r s : Carrier) (table p standing : List ℕ) : Type 0 where
@@ -64,7 +63,7 @@ pub record NearAsks (r s : Carrier) (p : List ℕ) : Type 0 where
 
 -- the trial that is the paper's swap; that none in so many rings succeeds; or that there is no swap
 pub record NearSays (r s : Carrier) (table p standing log : List ℕ) (z : Nearby) : Type 0 where
-  pub few : (m : Tally) → z ≡ Found m → Within nothing swap_most (Done m)
-  pub found : (m : Tally) → z ≡ Found m → (t : Tabled (length standing) table) → Beside t.yard r s p → Attempts (swap t.yard r s p) log (Done m)
+  pub few : (m : Tally) → z ≡ Found m → Within nothing swap_most (Some m)
+  pub found : (m : Tally) → z ≡ Found m → (t : Tabled (length standing) table) → Beside t.yard r s p → Attempts (swap t.yard r s p) log (Some m)
   pub farther : (k : ℕ) → z ≡ Farther k → (t : Tabled (length standing) table) → Beside t.yard r s p → NoneNear t.yard r s p k
-  pub nowhere : z ≡ Nowhere → (t : Tabled (length standing) table) → Beside t.yard r s p → Attempts (swap t.yard r s p) log Failed
+  pub nowhere : z ≡ Nowhere → (t : Tabled (length standing) table) → Beside t.yard r s p → Attempts (swap t.yard r s p) log None

@@ -8,7 +8,7 @@ ghost use Rattle.acting.specs.Acting.{Ready};
 ghost use Rattle.trial.specs.Trying.{TrialAsks};
 ghost use Rattle.near.specs.Seeking.{SurelyFails, TryJunctionSays, NearAsks, NearSays};
 
-use acting::{Tally, Tried};
+use acting::Tally;
 use docket::{Bay, Carrier};
 use trial::Trial;
 
@@ -61,7 +61,7 @@ fn try_junction(
     standing: &[u16],
     empty: &[u64],
     out: &mut [u64],
-) -> Tried
+) -> Option<Tally>
     requires ready { Ready table.now placement.now standing.now empty.now }
     requires trial_asks { TrialAsks trial placement.now standing.now }
     ensures { TryJunctionSays trial
@@ -70,11 +70,11 @@ fn try_junction(
     let n = standing.len();
     if acting::is_junction(table, n, trial.junction) {
         if surely_fails(table, trial, placement, standing, empty) {
-            return Tried::Failed;
+            return None;
         }
         return trial::try_at(table, trial, placement, standing, empty, out);
     }
-    Tried::Failed
+    None
 }
 
 // How many rings are looked at. Where hardly a bay is empty most trials fail, and it pays sooner to go ahead of them, but in the smallest yards.
@@ -115,14 +115,10 @@ pub fn seek_near(
     let mut ring = [0u64; words::WORDS];
     words::alone(&mut seen, u);
     words::alone(&mut ring, u);
-    let mut d = 0;
-    'nearest: loop {
-        if last <= d {
-            break 'nearest Nearby::Farther(last);
-        }
+    for _d in 0..last {
         let mut v = words::next_from(&ring, 0);
         if words::SPAN <= v {
-            break 'nearest Nearby::Nowhere;
+            return Nearby::Nowhere;
         }
         while v < words::SPAN {
             let here = Trial {
@@ -131,12 +127,12 @@ pub fn seek_near(
                 junction: Bay(v as u16),
             };
             let tried = try_junction(table, here, placement, standing, empty, out);
-            if let Tried::Done(m) = tried {
-                break 'nearest Nearby::Found(m);
+            if let Some(m) = tried {
+                return Nearby::Found(m);
             }
             v = words::next_from(&ring, v + 1);
         }
         rings::widen(table, &mut seen, &mut ring);
-        d += 1;
     }
+    Nearby::Farther(last)
 }

@@ -6,7 +6,7 @@ ghost use Rattle.docket.specs.Reading.{refusal_of, verdict_of};
 ghost use Rattle.numbers.specs.Numbers.{number_of, value_of, verdict_number, verdict_value};
 ghost use Rattle.numbers.specs.Tells.{Tells};
 
-use docket::{Refusal, Verdict};
+use docket::Refusal;
 
 // Acceptance, with the length written.
 pub fn accepted(written: u64, value: &mut u64) -> u64
@@ -25,11 +25,11 @@ pub fn refused(refusal: Refusal, value: &mut u64) -> u64
 }
 
 // The answer of a function that hands back a number.
-pub fn told(answer: Verdict, value: &mut u64) -> u64
+pub fn told(answer: Result<u64, Refusal>, value: &mut u64) -> u64
     ensures { Tells (verdict_number (verdict_of answer)) (verdict_value (verdict_of answer)) result value.new }
 {
     match answer {
-        Verdict::Granted(n) => accepted(n, value),
-        Verdict::Denied(r) => refused(r, value),
+        Ok(n) => accepted(n, value),
+        Err(r) => refused(r, value),
     }
 }

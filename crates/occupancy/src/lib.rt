@@ -7,7 +7,6 @@ ghost use Rattle.paper.specs.Limits.{most_bays};
 ghost use Rattle.words.specs.Sets.{mem, words};
 ghost use Rattle.occupancy.specs.Standing.{Occupies, Empty};
 
-use first_bad::wide;
 use words::WORDS;
 
 // The set of occupied bays, of n.
@@ -16,10 +15,8 @@ fn occupied(n: usize, place: &[u16], set: &mut [u64])
     ensures { Occupies n place.now set.new }
 {
     words::clear(set);
-    let mut c = 0;
-    while c < place.len() {
-        occupy(n, wide(place[c]), set);
-        c += 1;
+    for bay in place {
+        occupy(n, *bay as usize, set);
     }
 }
 
@@ -28,10 +25,9 @@ fn occupy(n: usize, b: usize, set: &mut [u64])
     requires { (n ≤ most_bays) × (length set.old ≡ words) }
     ensures { (x : ℕ) → mem set.new x ≡ mem set.old x or (ltb b n and eqb x b) }
 {
-    if n <= b {
-        return;
+    if b < n {
+        words::add(set, b);
     }
-    words::add(set, b);
 }
 
 // The empty bays are the n bays less the ones in the set of occupied bays. No yard that was opened has more than the limit.

@@ -1,5 +1,6 @@
 -- From the outcome of the procedure to what is handed out.
 -- Assumes nothing.
+use Rattle.std.proofs.Common.{Err, Ok}
 use mathlib.Core.Path.{◌≡◌, refl, sym, ◌∙◌, ap}
 use mathlib.Core.List.{List, ◌++◌, map}
 use Prim.Native.Nat.{ℕ, ◌+◌, ◌≤◌}
@@ -13,18 +14,16 @@ use Rattle.paper.proofs.Planning.{TooLong, within-stuck, within-fits, within-lon
 use Rattle.paper.proofs.Tests.{never}
 use Rattle.docket.specs.declared.Carrier.{Carrier as Named}
 use Rattle.docket.specs.declared.Refusal.TheVariants.{Room, Stopped}
-use Rattle.play.specs.FromBelow.{Planned, Stuck}
 use Rattle.play.specs.FromBelow.{Staged}
 use Rattle.play.specs.Playing.{Plays}
 use Rattle.acting.specs.declared.Tally.{Tally}
 use Rattle.outcome.specs.Handing.{told, PlanIn, Due, Hands, HandsIfKept}
 use Rattle.outcome.specs.declared.Handed.TheVariants.{Done, Longer}
-use Rattle.outcome.specs.declared.Counted.TheVariants.{Accepted, Refused}
-use Rattle.outcome.specs.declared.Counted.{Counted}
+use Rattle.outcome.specs.Counted.{Counted}
 
 -- ## The crossings kept
 
-pub plan-in : {o : Outcome} {kept kept' : List ℕ} {m : Tally} {z : Staged} → Plays o kept kept' z → z ≡ Planned m → PlanIn o kept' m
+pub plan-in : {o : Outcome} {kept kept' : List ℕ} {m : Tally} {z : Staged} → Plays o kept kept' z → z ≡ Ok m → PlanIn o kept' m
 plan-in {kept' = kept'} {m} p e =
     let w = p.plans m e in
     let size : 0 + length (map pack w.0.moves) ≡ m.crossings = omega (arith, length-map w.0.moves pack, w.3) in
@@ -47,20 +46,20 @@ copied-out out k h e made i =
 
 -- ## 7, 8, or the plan
 
-pub hands-stopped : {o : Outcome} {lent : List ℕ} (c : Named) → o ≡ stuck c.0 → Hands o lent (Refused (Stopped c)) lent
+pub hands-stopped : {o : Outcome} {lent : List ℕ} (c : Named) → o ≡ stuck c.0 → Hands o lent (Err (Stopped c)) lent
 unfolding written beside
 hands-stopped {lent = lent} c e =
     let w = within-stuck (length lent) c.0 in
     rw e (record { answers = sym (ap told w); parks = rw w refl; leaves = rw w refl })
 
-pub hands-long : {o : Outcome} {kept lent : List ℕ} {m : Tally} → PlanIn o kept m → TooLong (length lent) m.crossings → Hands o lent (Refused (Room m.crossings)) lent
+pub hands-long : {o : Outcome} {kept lent : List ℕ} {m : Tally} → PlanIn o kept m → TooLong (length lent) m.crossings → Hands o lent (Err (Room m.crossings)) lent
 unfolding written beside
 hands-long {lent = lent} k h =
     let w = within-long (length lent) k.made (rw k.counted at h) in
     rw (k.outcome, k.counted) (record { answers = sym (ap told w); parks = rw w refl; leaves = rw w refl })
 
 pub hands-plan : {o : Outcome} {kept lent lent' : List ℕ} {m : Tally} → PlanIn o kept m → m.crossings ≤ length lent → m.crossings ≤ most_crossings
-    → ((made : Made) → o ≡ planned made → lent' ≡ map pack made.moves ++ drop (length made.moves) lent) → Hands o lent (Accepted m.crossings m.parked) lent'
+    → ((made : Made) → o ≡ planned made → lent' ≡ map pack made.moves ++ drop (length made.moves) lent) → Hands o lent (Ok (m.crossings, m.parked)) lent'
 unfolding written beside parked_of
 hands-plan {lent = lent} k a b f =
     let w = within-fits (length lent) k.made (rw k.counted at a) (rw k.counted at b) in
@@ -91,9 +90,9 @@ due-of k a b = record { made = k.made; outcome = k.outcome; counted = k.counted;
 
 -- the places that were lent for it are all that it has, so it fills them
 pub hands-again : {o : Outcome} {lent stored lent' : List ℕ} {m parked : ℕ} (z : Staged) → Plays o (take m lent) stored z → Due o lent m parked
-    → lent' ≡ stored ++ drop m lent → Hands o lent (Accepted m parked) lent'
-hands-again (Stuck c) p d e = never (let stops = p.stops c refl in let plans = d.outcome in cc)
-hands-again {lent = lent} {stored} {lent'} {m} {parked} (Planned t) p d e =
+    → lent' ≡ stored ++ drop m lent → Hands o lent (Ok (m, parked)) lent'
+hands-again (Err c) p d e = never (let stops = p.stops c refl in let plans = d.outcome in cc)
+hands-again {lent = lent} {stored} {lent'} {m} {parked} (Ok t) p d e =
     let k = plan-in p refl in
     let same : k.made ≡ d.made = let a = k.outcome in let b = d.outcome in cc in
     let long : t.crossings ≡ m = k.counted ∙ ap (λ (x : Made). length x.moves) same ∙ sym d.counted in

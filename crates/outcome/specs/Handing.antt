@@ -1,6 +1,6 @@
 -- What is handed out of an outcome of the procedure: 7, 8 or the plan, and what is left in the lent list.
 -- Assumes nothing.
-use Rattle.std.specs.Prelude.{◌≡◌, List, map, ℕ, ◌≤◌, length, take}
+use Rattle.std.specs.Prelude.{◌≡◌, List, map, ℕ, ◌≤◌, length, take, Err, Ok}
 use Rattle.paper.specs.Procedure.{Made, Outcome, planned}
 use Rattle.paper.specs.Yard.{Placement, pack, most_crossings}
 use Rattle.paper.specs.Docket.{Refusal}
@@ -8,8 +8,7 @@ use Rattle.paper.specs.Answers.{Answer, accepted, refused, parked_of, within, be
 use Rattle.docket.specs.Reading.{refusal_of}
 use Rattle.acting.specs.declared.Tally.{Tally}
 use Rattle.play.specs.Playing.{OfProcedure}
-use Rattle.outcome.specs.declared.Counted.{Counted}
-use Rattle.outcome.specs.declared.Counted.TheVariants.{Accepted, Refused}
+use Rattle.outcome.specs.Counted.{Counted}
 use Rattle.outcome.specs.declared.Handed.{Handed}
 use Rattle.outcome.specs.declared.Handed.TheVariants.{Done, Longer}
 
@@ -23,13 +22,13 @@ told (accepted xs) = long (length xs)
 told (refused r) = denied r
 
 abbrev pub counted_of : Counted → PlanTold
-counted_of (Accepted m k) = long m
-counted_of (Refused r) = denied (refusal_of r)
+counted_of (Ok (m, k)) = long m
+counted_of (Err r) = denied (refusal_of r)
 
 -- the count: 0 beside a refusal
 abbrev pub parked_by : Counted → ℕ
-parked_by (Accepted m k) = k
-parked_by (Refused r) = 0
+parked_by (Ok (m, k)) = k
+parked_by (Err r) = 0
 
 -- the outcome is a plan of so many crossings, and these are the first of them; its count is exact unless the plan is too long
 pub record PlanIn (o : Outcome) (kept : List ℕ) (m : Tally) : Type 0 where

@@ -40,8 +40,7 @@ fn open_sides(table: &[u64], n: usize, x: Bay, free: &[u64], shut: &mut [u64]) -
     words::keep(&mut seen, 0, shut);
     words::join(&mut seen, x.0 as usize);
     words::alone(&mut ring, x.0 as usize);
-    let mut d = 0;
-    while d < n {
+    for _ in 0..n {
         if words::meets(&ring, 0, free, 0) {
             return 1;
         }
@@ -50,7 +49,6 @@ fn open_sides(table: &[u64], n: usize, x: Bay, free: &[u64], shut: &mut [u64]) -
             return 0;
         }
         rings::widen(table, &mut seen, &mut ring);
-        d += 1;
     }
     1
 }

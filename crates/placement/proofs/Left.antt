@@ -15,7 +15,7 @@ use Rattle.paper.specs.Log.{Request, marks_of, accepted_of}
 use Rattle.paper.proofs.Playing.{after-length}
 use Rattle.laws.proofs.Logging.{fine-marks}
 use Rattle.demands.proofs.Demands.{demand-3}
-use Rattle.docket.specs.declared.Verdict.{Verdict as Held}
+use Rattle.docket.specs.Verdict.{Verdict as Held}
 use Rattle.placement.specs.Standing.{refusal, standing, standing_end, PlacementSays}
 
 -- what is handed out after any reports on a plan that passes the check, from fresh marks

@@ -1,4 +1,5 @@
 -- What is said of the placement, way out by way out: the check's refusal, the marks', the room's; and once they have passed, the placement.
+use Rattle.std.proofs.Common.{Err, Ok}
 use mathlib.Core.Path.{◌≡◌, sym, ◌∙◌, ap}
 use mathlib.Core.Bool.{true, false}
 use mathlib.Core.List.{List, ◌++◌}
@@ -22,17 +23,16 @@ use Rattle.bills.proofs.Stepping.{carrier_there}
 use Rattle.docket.specs.Reading.{refusal_of}
 use Rattle.docket.specs.declared.Refusal.{Refusal}
 use Rattle.docket.specs.declared.Refusal.TheVariants.{Mismarked, Room}
-use Rattle.docket.specs.declared.Verdict.TheVariants.{Granted, Denied}
 use Rattle.placement.specs.Standing.{refusal, standing, PlacementSays}
 use Rattle.placement.proofs.Behind.{after-behind}
 
 module _ (o : Order) (plan marks : List ℕ) (lent : List Bay) where
   refused : (r : Refusal) → refusal o plan marks (length lent) ≡ some (refusal_of r)
-      → PlacementSays o plan marks lent (Denied r) lent
+      → PlacementSays o plan marks lent (Err r) lent
   unfolding standing
   refused r e = record { answers = rw e; leaves = rw e }
 
-  pub says-refused : (r : Refusal) → some (refusal_of r) ≡ check o plan → PlacementSays o plan marks lent (Denied r) lent
+  pub says-refused : (r : Refusal) → some (refusal_of r) ≡ check o plan → PlacementSays o plan marks lent (Err r) lent
   unfolding refusal
   says-refused r h = refused r (rw (← h))
 
@@ -40,12 +40,12 @@ module _ (o : Order) (plan marks : List ℕ) (lent : List Bay) where
     pub fits : Fits most_bays most_bays plan
     fits = check-fits o plan (sym passes)
 
-    pub says-mismarked : bad_marks (crossings plan) marks ≡ true → PlacementSays o plan marks lent (Denied Mismarked) lent
+    pub says-mismarked : bad_marks (crossings plan) marks ≡ true → PlacementSays o plan marks lent (Err Mismarked) lent
     unfolding refusal
     says-mismarked b = refused Mismarked (rw (← passes, b))
 
     module _ (b : bad_marks (crossings plan) marks ≡ false) where
-      pub says-room : length lent < length o.starts → PlacementSays o plan marks lent (Denied (Room (length o.starts))) lent
+      pub says-room : length lent < length o.starts → PlacementSays o plan marks lent (Err (Room (length o.starts))) lent
       unfolding refusal
       says-room h = refused (Room (length o.starts)) (rw (← passes, b, lt-ltb (length lent) (length o.starts) h))
 
@@ -63,7 +63,7 @@ module _ (o : Order) (plan marks : List ℕ) (lent : List Bay) where
           (omega (arith, low, long), (fits i l).1, (fits i l).2)
 
       pub says-placed : length o.starts ≤ length lent → (at at' : List Bay) → at ≡ o.starts ++ drop (length o.starts) lent
-          → at' ≡ after at (done_of (crossings plan) marks) → PlacementSays o plan marks lent (Granted (length o.starts)) at'
+          → at' ≡ after at (done_of (crossings plan) marks) → PlacementSays o plan marks lent (Ok (length o.starts)) at'
       unfolding standing refusal
       says-placed h at at' laid moved =
           let room-left = le-ltb (length lent) (length o.starts) h in

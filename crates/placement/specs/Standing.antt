@@ -9,7 +9,7 @@ use Rattle.paper.specs.Dependence.{placement_by}
 use Rattle.paper.specs.Docket.{Refusal, room, no_11, Verdict, granted, denied, unless_denied}
 use Rattle.paper.specs.Answers.{check}
 use Rattle.docket.specs.Reading.{verdict_of}
-use Rattle.docket.specs.declared.Verdict.{Verdict as Held}
+use Rattle.docket.specs.Verdict.{Verdict as Held}
 
 module _ (o : Order) (plan marks : List ℕ) where
   -- a report's refusals up to 11, then 8 carrying the number of carriers, if the lent list, of such a length, is shorter

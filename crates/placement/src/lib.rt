@@ -4,8 +4,7 @@
 ghost use Rattle.paper.specs.Order.{order};
 ghost use Rattle.placement.specs.Standing.{PlacementSays};
 
-use checker::Checked;
-use docket::{Refusal, Verdict};
+use docket::Refusal;
 
 // The bay of each carrier, to the first places of `at`. A refusal changes nothing.
 pub fn placement(
@@ -16,21 +15,18 @@ pub fn placement(
     plan: &[u64],
     marks: &[u8],
     at: &mut [u16],
-) -> Verdict
+) -> Result<u64, Refusal>
     ensures { PlacementSays (order bays rails.now start.now goal.now)
         plan.now marks.now at.old result at.new }
 {
-    let checked = checker::check(bays, rails, start, goal, plan);
-    if let Checked::Refused(r) = checked {
-        return Verdict::Denied(r);
-    }
+    checker::check(bays, rails, start, goal, plan)?;
     if mark_order::bad_marks(plan, marks) {
-        return Verdict::Denied(Refusal::Mismarked);
+        return Err(Refusal::Mismarked);
     }
     if at.len() < start.len() {
-        return Verdict::Denied(Refusal::Room(start.len() as u64));
+        return Err(Refusal::Room(start.len() as u64));
     }
-    copies::shorts(at, start);
+    copies::copy(at, start);
     move_done::move_done(plan, marks, at);
-    Verdict::Granted(start.len() as u64)
+    Ok(start.len() as u64)
 }

@@ -14,11 +14,9 @@ fn nobody(k: u16, standing: &mut [u16], empty: &mut [u64])
     ensures { Nobody (length standing.old) k standing.new empty.new }
 {
     words::clear(empty);
-    let mut b = 0;
-    while b < standing.len() {
-        standing[b] = k;
+    for (b, carrier) in standing.iter_mut().enumerate() {
+        *carrier = k;
         words::add(empty, b);
-        b += 1;
     }
 }
 
@@ -32,11 +30,9 @@ pub fn place(placement: &[u16], standing: &mut [u16], empty: &mut [u64])
     ensures { Placed (length standing.old) placement.now standing.new empty.new }
 {
     nobody(placement.len() as u16, standing, empty);
-    let mut c = 0;
-    while c < placement.len() {
-        let b = placement[c] as usize;
+    for (c, b) in placement.iter().enumerate() {
+        let b = *b as usize;
         standing[b] = c as u16;
         words::remove(empty, b);
-        c += 1;
     }
 }

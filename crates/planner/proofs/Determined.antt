@@ -1,5 +1,6 @@
 -- Any two answers that the statement allows are equal, and so are what they leave.
 -- Assumes nothing.
+use Rattle.std.proofs.Common.{Err, Ok}
 use mathlib.Core.Path.{◌≡◌, refl, sym, ap, ap₂, ◌∙◌}
 use mathlib.Core.List.{List}
 use Prim.Native.Nat.{ℕ}
@@ -9,19 +10,17 @@ use Rattle.paper.specs.Answers.{plan, plan_end}
 use Rattle.paper.proofs.Determined.{Determined, telling-by, determined-by}
 use Rattle.docket.proofs.Telling.{refusal_for, refusal-back}
 use Rattle.planner.specs.Statement.{PlanTold, long, denied, told, planned_of, uncounted, parked_by, PlanSays, CountSays}
-use Rattle.rooms.specs.FromBelow.{Accepted as Counts, Refused as Denies}
 use Rattle.rooms.specs.FromBelow.{Counted}
-use Rattle.planner.specs.declared.Planned.TheVariants.{Accepted, Refused}
-use Rattle.planner.specs.declared.Planned.{Planned}
+use Rattle.planner.specs.Planned.{Planned}
 
 planned_for : PlanTold → Planned
-planned_for (long m) = Accepted m
-planned_for (denied r) = Refused (refusal_for r)
+planned_for (long m) = Ok m
+planned_for (denied r) = Err (refusal_for r)
 
 planned-back : (a : Planned) → planned_for (planned_of a) ≡ a
 unfolding planned_for
-planned-back (Accepted m) = refl
-planned-back (Refused r) = ap Refused (refusal-back r)
+planned-back (Ok m) = refl
+planned-back (Err r) = ap Err (refusal-back r)
 
 pub plan-determined : (o : Order) (lent : List ℕ) → Determined (PlanSays o lent)
 plan-determined o lent a a' l l' s t =
@@ -30,13 +29,13 @@ plan-determined o lent a a' l l' s t =
 
 -- and with the count
 counted_for : Planned → ℕ → Counted
-counted_for (Accepted m) k = Counts m k
-counted_for (Refused r) k = Denies r
+counted_for (Ok m) k = Ok (m, k)
+counted_for (Err r) k = Err r
 
 counted_back : (a : Counted) → counted_for (uncounted a) (parked_by a) ≡ a
 unfolding counted_for
-counted_back (Counts m k) = refl
-counted_back (Denies r) = refl
+counted_back (Ok (m, k)) = refl
+counted_back (Err r) = refl
 
 pub count-determined : (o : Order) (lent : List ℕ) → Determined (CountSays o lent)
 count-determined o lent a a' l l' s t =

@@ -1,5 +1,6 @@
 -- From what is handed out to the planner's answer.
 -- Assumes nothing.
+use Rattle.std.proofs.Common.{Err, Ok}
 use mathlib.Core.Path.{◌≡◌, refl, sym, ◌∙◌, ap}
 use mathlib.Core.Bool.{true}
 use mathlib.Core.List.{List, map}
@@ -18,22 +19,19 @@ use Rattle.laws.proofs.Handing.{handed-passes}
 use Rattle.docket.specs.Reading.{refusal_of}
 use Rattle.docket.specs.declared.Refusal.{Refusal as Docketed}
 use Rattle.rooms.specs.FromBelow.{counted_of, Hands, HandsOut}
-use Rattle.rooms.specs.FromBelow.{Accepted as Counts, Refused as Denies}
 use Rattle.rooms.specs.FromBelow.{Counted}
 use Rattle.likely.specs.FromBelow.{Admitted}
 use Rattle.yard.specs.Opening.{opened_of, Opens}
 use Rattle.yard.specs.declared.Yard.{Yard as Numbers}
-use Rattle.yard.specs.declared.Opened.{Opened}
-use Rattle.yard.specs.declared.Opened.TheVariants.{Open, Refused as Shut}
+use Rattle.yard.specs.Opened.{Opened}
 use Rattle.planner.proofs.Letting.{let-in, tabled-of}
 use Rattle.planner.specs.Statement.{long, told, planned_of, uncounted, PlanSays, CountSays}
-use Rattle.planner.specs.declared.Planned.TheVariants.{Refused}
-use Rattle.planner.specs.declared.Planned.{Planned as Answered}
+use Rattle.planner.specs.Planned.{Planned as Answered}
 
 -- the same length is told with the count and without
 length-counted : (a : Counted) → planned_of (uncounted a) ≡ counted_of a
-length-counted (Counts m k) = refl
-length-counted (Denies r) = refl
+length-counted (Ok (m, k)) = refl
+length-counted (Err r) = refl
 
 module _ (o : Order) where
   -- an answer of a plan's length comes of a plan of that length
@@ -61,11 +59,11 @@ module _ (o : Order) where
     passes = λ m z. (stands lent lent' m (sym (ap planned_of z) ∙ h) e).2;
   }
 
-  pub says-refused : (lent : List ℕ) (r : Docketed) → some (refusal_of r) ≡ first_six o 0 → CountSays o lent (Denies r) lent
+  pub says-refused : (lent : List ℕ) (r : Docketed) → some (refusal_of r) ≡ first_six o 0 → CountSays o lent (Err r) lent
   unfolding written plan_parked beside
   says-refused lent r h =
       let e = plan-unclean o (length lent) (refusal_of r) (sym h) in
-      record { says = says_of lent lent (Refused r) (rw e refl) (rw e refl); parks = rw e refl }
+      record { says = says_of lent lent (Err r) (rw e refl) (rw e refl); parks = rw e refl }
 
   pub says-handed : (lent lent' : List ℕ) (answer : Counted) → none ≡ first_six o 0 → Hands (procedure (yard_of o) o.goals o.starts) lent answer lent'
       → CountSays o lent answer lent'
@@ -76,12 +74,12 @@ module _ (o : Order) where
 
 -- the yard's answer: where it opens, the procedure may be played, and what is handed out is the answer; else the refusal is
 module _ (o : Order) {opened : Opened} {table : List ℕ} (opens : Opens o 0 opened table) where
-  pub opens_in : {y : Numbers} → opened ≡ Open y → Admitted y.bays table o.starts o.goals
+  pub opens_in : {y : Numbers} → opened ≡ Ok y → Admitted y.bays table o.starts o.goals
   opens_in e = let-in o (ap opened_of (sym e) ∙ opens.answer) (opens.admitted _ e)
 
-  pub says-shut : {r : Docketed} (lent : List ℕ) → opened ≡ Shut r → CountSays o lent (Denies r) lent
+  pub says-shut : {r : Docketed} (lent : List ℕ) → opened ≡ Err r → CountSays o lent (Err r) lent
   says-shut lent e = says-refused o lent _ (ap opened_of (sym e) ∙ opens.answer)
 
-  pub says-open : {y : Numbers} (lent lent' : List ℕ) (answer : Counted) → opened ≡ Open y
+  pub says-open : {y : Numbers} (lent lent' : List ℕ) (answer : Counted) → opened ≡ Ok y
       → HandsOut y.bays table o.starts o.goals lent answer lent' → CountSays o lent answer lent'
   says-open lent lent' answer e h = says-handed o lent lent' answer (ap opened_of (sym e) ∙ opens.answer) (h (tabled-of o (opens.admitted _ e)))

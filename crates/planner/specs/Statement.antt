@@ -1,7 +1,7 @@
 -- What the planner promises: its answer and what it leaves in the lent list are the paper's, and a plan handed out is legal, ends at the
 -- goals and passes the check.
 -- Assumes nothing.
-use Rattle.std.specs.Prelude.{◌≡◌, true, List, ℕ, length, take}
+use Rattle.std.specs.Prelude.{◌≡◌, true, List, ℕ, length, take, Err, Ok}
 use Rattle.std.proofs.Math.Option.{none}
 use Rattle.paper.specs.Yard.{crossings, after, legal_plan}
 use Rattle.paper.specs.Order.{Order}
@@ -10,25 +10,23 @@ use Rattle.paper.specs.Answers.{plan, plan_parked, plan_end, check}
 use Rattle.docket.specs.Reading.{refusal_of}
 pub use Rattle.rooms.specs.FromBelow.{PlanTold, long, denied, told, parked_by}
 use Rattle.rooms.specs.FromBelow.{Counted}
-use Rattle.rooms.specs.FromBelow.{Accepted as Counts, Refused as Denies}
-use Rattle.planner.specs.declared.Planned.{Planned}
-use Rattle.planner.specs.declared.Planned.TheVariants.{Accepted, Refused}
+use Rattle.planner.specs.Planned.{Planned}
 
 abbrev pub planned_of : Planned → PlanTold
-planned_of (Accepted m) = long m
-planned_of (Refused r) = denied (refusal_of r)
+planned_of (Ok m) = long m
+planned_of (Err r) = denied (refusal_of r)
 
 -- the answer without the count
 abbrev pub uncounted : Counted → Planned
-uncounted (Counts m k) = Accepted m
-uncounted (Denies r) = Refused r
+uncounted (Ok (m, k)) = Ok m
+uncounted (Err r) = Err r
 
 pub record PlanSays (o : Order) (lent : List ℕ) (answer : Planned) (lent' : List ℕ) : Type 0 where
   pub answers : planned_of answer ≡ told (plan o (length lent))
   pub leaves : lent' ≡ plan_end o lent
-  pub legal : (m : ℕ) → answer ≡ Accepted m → legal_plan (yard_of o) o.starts (crossings (take m lent')) ≡ true
-  pub home : (m : ℕ) → answer ≡ Accepted m → after o.starts (crossings (take m lent')) ≡ o.goals
-  pub passes : (m : ℕ) → answer ≡ Accepted m → check o (take m lent') ≡ none
+  pub legal : (m : ℕ) → answer ≡ Ok m → legal_plan (yard_of o) o.starts (crossings (take m lent')) ≡ true
+  pub home : (m : ℕ) → answer ≡ Ok m → after o.starts (crossings (take m lent')) ≡ o.goals
+  pub passes : (m : ℕ) → answer ≡ Ok m → check o (take m lent') ≡ none
 
 -- The same with the count: it is what the paper's planner carries.
 pub record CountSays (o : Order) (lent : List ℕ) (answer : Counted) (lent' : List ℕ) : Type 0 where

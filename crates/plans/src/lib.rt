@@ -16,21 +16,14 @@ pub fn crossing_at(plan: &[u64], name: usize) -> Crossing
     docket::unpack(plan[name])
 }
 
-// What a name finds.
-#[derive(Clone, Copy)]
-pub enum Named {
-    Crossing(Crossing),
-    Unknown,
-}
-
 // The crossing that bears the name, or that none does.
-pub fn find(plan: &[u64], name: u64) -> Named
+pub fn find(plan: &[u64], name: u64) -> Option<Crossing>
     ensures { named_of result ≡ found_in (crossings plan.now) name }
 {
     let at = name as usize;
     if at < plan.len() {
-        Named::Crossing(crossing_at(plan, at))
+        Some(crossing_at(plan, at))
     } else {
-        Named::Unknown
+        None
     }
 }

@@ -69,10 +69,6 @@ room-raised n r wide some h =
     let size : length (take (r * n * words) wide) ≡ r * n * words = length-take-le (r * n * words) wide h in
     omega arith
 
--- A new array of so many tables' size has room for one, by its length: a search would go through all its places, and there are more the higher the limits.
-pub new-has-room : (tables : ℕ) → 1 ≤ tables → span * words ≤ length {A = ℕ} (replicate (tables * (span * words)) 0)
-new-has-room tables h = rw (length-replicate {A = ℕ} (tables * (span * words)) 0) (omega (arith, h))
-
 -- the rails alone have no levels above them
 pub rails-levelled : (n : ℕ) (table : List ℕ) → n * words ≤ length table → Levelled n (take (n * words) table)
 rails-levelled n table h =
@@ -81,3 +77,7 @@ rails-levelled n table h =
       | yes p ↦ only-rails n (take (n * words) table) p (omega arith)
       | no p ↦ record { rises = λ j x b l hx hb. absurd (omega arith) }
     ]
+
+-- A new array of so many tables' size has room for one, by its length: a search would go through all its places, and there are more the higher the limits.
+pub new-has-room : (tables : ℕ) → 1 ≤ tables → span * words ≤ length {A = ℕ} (replicate (tables * (span * words)) 0)
+new-has-room tables h = rw (length-replicate {A = ℕ} (tables * (span * words)) 0) (omega (arith, h))

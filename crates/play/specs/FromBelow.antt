@@ -1,2 +1,2 @@
 -- What the crates above take from the crates below this one: they name this crate alone, since rt walks every way from one crate down to another.
-pub use Rattle.carry_all.specs.FromBelow.{Planned, Staged, Stuck}
+pub use Rattle.carry_all.specs.FromBelow.{Staged}

@@ -1,6 +1,6 @@
 -- What playing the procedure asks of a yard and its placements, and what it answers.
 -- Assumes nothing.
-use Rattle.std.specs.Prelude.{◌≡◌, List, map, ℕ, ◌*◌, ◌≤◌, ◌<◌, length}
+use Rattle.std.specs.Prelude.{◌≡◌, List, map, ℕ, ◌*◌, ◌≤◌, ◌<◌, length, Err, Ok}
 use Rattle.paper.specs.Procedure.{Made, Outcome, planned, stuck}
 use Rattle.paper.specs.Yard.{Placement, pack, bay_of}
 use Rattle.paper.proofs.Playing.{Apart}
@@ -13,7 +13,6 @@ use Rattle.carry_all.specs.FromBelow.{Loopless}
 use Rattle.carry_all.specs.FromBelow.{Goals}
 use Rattle.carry_all.specs.Serving.{procedures, Reaching}
 use Rattle.docket.specs.declared.Carrier.{Carrier as Named}
-use Rattle.carry_all.specs.FromBelow.{Planned, Stuck}
 use Rattle.carry_all.specs.FromBelow.{Staged}
 
 -- the table is that of a yard of n bays in one piece, and starts and goals are placements in it, as refusals 1 to 6 leave them
@@ -44,10 +43,10 @@ OfProcedure n table s g Says = (t : Tabled n table) → Says (procedures t.yard 
 
 -- the crossings of the procedure were counted, and stored where there was room; or the carrier that it names could not step
 pub record Plays (o : Outcome) (out out' : List ℕ) (z : Staged) : Type 0 where
-  pub plans : (m : Tally) → z ≡ Planned m
+  pub plans : (m : Tally) → z ≡ Ok m
       → (made : Made) × (o ≡ planned made) × Stored (map pack made.moves) out 0 out'
       × (m.crossings ≡ length made.moves) × AsFar m.parked made.parked × (m.parked ≤ m.crossings)
-  pub stops : (c : Named) → z ≡ Stuck c → o ≡ stuck c.0
+  pub stops : (c : Named) → z ≡ Err c → o ≡ stuck c.0
 
 -- the same of the procedure from starts to goals
 abbrev pub PlaysOut : ℕ → List ℕ → Placement → Placement → (out out' : List ℕ) → Staged → Type 0

@@ -6,16 +6,17 @@ ghost use Rattle.std.specs.Prelude.{◌≤◌, ◌<◌, ◌*◌, length};
 ghost use Rattle.words.specs.Sets.{words, span};
 ghost use Rattle.play.specs.Playing.{Admitted, TableAsks, PlayOnAsks, PlaysOut};
 
+use acting::Tally;
 pub use carry_all::home;
-use carry_all::home::Staged;
+use docket::Carrier;
 use words::{SPAN, WORDS};
 use yard::Yard;
 
 // Where this share of the bays is empty, or less, vacating has far to go, and many levels pay.
 const CROWDED: usize = 12;
 
-// Levels that have room then in any yard.
-const HIGH: usize = 32;
+// Words that many levels take: so many tables have room for as many levels in any yard.
+const HIGH: usize = 32 * Yard::TABLE;
 
 // A yard with fewer bays has all its levels in the lesser room.
 const WIDE: usize = 128;
@@ -26,8 +27,8 @@ const FILLED: usize = 4;
 // Filling levels takes time, so there must be so many carriers more.
 const SURPLUS: usize = 7;
 
-// Levels that have room there in any yard.
-const LOW: usize = 8;
+// Words that a few levels take.
+const LOW: usize = 8 * Yard::TABLE;
 
 // From so many rail ends to a bay on a yard is dense: no bay is far, and plans are short.
 pub const DENSE: usize = 6;
@@ -46,14 +47,14 @@ fn play_on(
     standing: &mut [u16],
     owner: &mut [u16],
     out: &mut [u64],
-) -> Staged
+) -> Result<Tally, Carrier>
     requires { PlayOnAsks table.now start.now goal.now placement.old standing.old owner.old }
     ensures { PlaysOut (length standing.old) table.now start.now goal.now out.old out.new result }
 {
     let mut empty = [0u64; WORDS];
     let mut spare = [0u64; WORDS];
     let mut settled = [0u64; WORDS];
-    copies::shorts(placement, start);
+    copies::copy(placement, start);
     placing::place(start, standing, &mut empty);
     placing::place(goal, owner, &mut spare);
     carry_all::carry_all(
@@ -69,7 +70,13 @@ fn play_on(
 }
 
 // On a table that may go on above its rails.
-fn play_in(table: &[u64], n: usize, start: &[u16], goal: &[u16], out: &mut [u64]) -> Staged
+fn play_in(
+    table: &[u64],
+    n: usize,
+    start: &[u16],
+    goal: &[u16],
+    out: &mut [u64],
+) -> Result<Tally, Carrier>
     requires { TableAsks n table.now start.now goal.now }
     ensures { PlaysOut n table.now start.now goal.now out.old out.new result }
 {
@@ -95,7 +102,7 @@ pub fn play_by_rails(
     start: &[u16],
     goal: &[u16],
     out: &mut [u64],
-) -> Staged
+) -> Result<Tally, Carrier>
     requires admitted { Admitted n table.now start.now goal.now }
     requires words_in_bounds { n * words ≤ length table.now }
     ensures { PlaysOut n table.now start.now goal.now out.old out.new result }
@@ -112,47 +119,33 @@ fn play_by_levels(
     goal: &[u16],
     wide: &mut [u64],
     out: &mut [u64],
-) -> Staged
+) -> Result<Tally, Carrier>
     requires admitted { Admitted n table.now start.now goal.now }
     requires n_nonzero { 0 < n }
     requires words_in_bounds { span * words ≤ length wide.old }
     ensures { PlaysOut n table.now start.now goal.now out.old out.new result }
 {
-    copies::longs(wide, table);
+    copies::copy(wide, table);
     let levels = levels::raise(n, wide);
     let size = levels * n * WORDS;
     play_in(&wide[..size], n, start, goal, out)
 }
 
-// With many levels. The large array stands here only, since clearing it takes time.
-fn play_high(
+// With as many levels as ROOM words hold. The large array stands here only, since clearing it takes time.
+fn play_within<const ROOM: usize>(
     table: &[u64; Yard::TABLE],
     n: usize,
     start: &[u16],
     goal: &[u16],
     out: &mut [u64],
-) -> Staged
+) -> Result<Tally, Carrier>
     requires admitted { Admitted n table.now start.now goal.now }
     requires n_nonzero { 0 < n }
+    requires room_for_table { span * words ≤ ROOM }
+    requires room_within_high { ROOM ≤ 32 * (span * words) }
     ensures { PlaysOut n table.now start.now goal.now out.old out.new result }
 {
-    let mut wide = [0u64; HIGH * Yard::TABLE];
-    play_by_levels(table, n, start, goal, &mut wide, out)
-}
-
-// With few.
-fn play_low(
-    table: &[u64; Yard::TABLE],
-    n: usize,
-    start: &[u16],
-    goal: &[u16],
-    out: &mut [u64],
-) -> Staged
-    requires admitted { Admitted n table.now start.now goal.now }
-    requires n_nonzero { 0 < n }
-    ensures { PlaysOut n table.now start.now goal.now out.old out.new result }
-{
-    let mut wide = [0u64; LOW * Yard::TABLE];
+    let mut wide = [0u64; ROOM];
     play_by_levels(table, n, start, goal, &mut wide, out)
 }
 
@@ -164,34 +157,29 @@ pub fn play(
     start: &[u16],
     goal: &[u16],
     out: &mut [u64],
-) -> Staged
+) -> Result<Tally, Carrier>
     requires { Admitted yard.bays table.now start.now goal.now }
     ensures { PlaysOut yard.bays table.now start.now goal.now out.old out.new result }
 {
     let n = yard.bays;
     let ends = yard.ends;
     let carriers = start.len();
-    if carriers < n - n / FILLED + SURPLUS {
-        return play_by_rails(table, n, start, goal, out);
-    }
-    if ends / GRID * 2 < n {
+    if carriers < n - n / FILLED + SURPLUS || ends / GRID * 2 < n {
         return play_by_rails(table, n, start, goal, out);
     }
     let empty = yard.empty_bays(start);
     // Fewer rails than a grid has, and hardly a bay empty: the procedure soon stops.
-    if ends / 3 < n {
-        if empty <= Yard::KEPT_EMPTY {
-            return play_by_rails(table, n, start, goal, out);
-        }
+    if ends / 3 < n && empty <= Yard::KEPT_EMPTY {
+        return play_by_rails(table, n, start, goal, out);
     }
     if n / CROWDED < empty {
         if n <= ends / DENSE {
             return play_by_rails(table, n, start, goal, out);
         }
-        return play_low(table, n, start, goal, out);
+        return play_within::<LOW>(table, n, start, goal, out);
     }
     if n < WIDE {
-        return play_low(table, n, start, goal, out);
+        return play_within::<LOW>(table, n, start, goal, out);
     }
-    play_high(table, n, start, goal, out)
+    play_within::<HIGH>(table, n, start, goal, out)
 }

@@ -12,7 +12,7 @@ use Rattle.paper.specs.Answers.{Answer, accepted}
 use Rattle.paper.specs.OnePass.{Fits}
 use Rattle.paper.specs.Print.{decimal, action_line, cost_line, ended, printed}
 use Rattle.laws.proofs.Digits.{ten_to, short}
-use Rattle.docket.specs.declared.Verdict.{Verdict}
+use Rattle.docket.specs.Verdict.{Verdict}
 use Rattle.put_bytes.specs.Named.{named}
 use Rattle.printing.specs.Parts.{action_lines}
 use Rattle.plan_lines.proofs.Lines.{action-parts, cost-parts}

@@ -5,7 +5,7 @@ ghost use Rattle.std.specs.Prelude.{◌≡◌};
 ghost use Rattle.paper.specs.Program.{program_room};
 ghost use Rattle.print_room.specs.Printout.{print_room, Within, Prints};
 
-use docket::Verdict;
+use docket::Refusal;
 
 // Room for every print.
 pub const PRINT_BYTES: usize = 22 * CROSSINGS + 26;
@@ -20,15 +20,15 @@ pub fn limits()
 {}
 
 // The answer, with the plan at the list's beginning where there is one.
-pub fn print(answer: Verdict, plan: &[u64], out: &mut [u8]) -> usize
+pub fn print(answer: Result<u64, Refusal>, plan: &[u64], out: &mut [u8]) -> usize
     requires { Within answer plan.now }
     ensures { Prints answer plan.now out.old out.new result }
 {
     match answer {
-        Verdict::Granted(m) => {
+        Ok(m) => {
             let n = m as usize;
             printing::plan(&plan[..n], out)
         }
-        Verdict::Denied(r) => printing::refusal(r, out),
+        Err(r) => printing::refusal(r, out),
     }
 }

@@ -10,7 +10,7 @@ use native.Mathlib.Numerals.{add-one}
 use lib.ListN.{length, take, get_or, length-append, length-map}
 use lib.Seq.{take-suc}
 use borrow.Author.Tests.{le-leb, lt-leb}
-use Rattle.paper.specs.Yard.{Crossing, unpack, crossings, most_crossings}
+use Rattle.paper.specs.Yard.{unpack, crossings, most_crossings}
 use Rattle.paper.specs.Docket.{Refusal, number, carried, room}
 use Rattle.paper.specs.Answers.{refused}
 use Rattle.paper.specs.Text.{Text, text, LF}

@@ -18,10 +18,8 @@ fn actions(plan: &[u64], out: &mut [u8]) -> usize
     ensures { Wrote out.old 0 (action_lines plan.now) out.new result × (result ≤ 80 * length plan.now) }
 {
     let mut at = 0;
-    let mut i = 0;
-    while i < plan.len() {
-        at = plan_lines::action(out, at, docket::unpack(plan[i]));
-        i += 1;
+    for x in plan {
+        at = plan_lines::action(out, at, docket::unpack(*x));
     }
     at
 }

@@ -1,4 +1,5 @@
 -- What the files leave in the lent lists is the order that the paper plans: every order fits there, so the lists begin with all of it.
+use Rattle.std.proofs.Common.{Err, Ok}
 use mathlib.Core.Path.{◌≡◌, refl, sym, ◌∙◌, ap}
 use mathlib.Core.List.{List}
 use mathlib.Core.Option.{Option}
@@ -20,8 +21,7 @@ use Rattle.docket.specs.declared.Refusal.{Refusal as Given}
 use Rattle.docket.specs.Reading.{refusal_of}
 use Rattle.scenario.specs.Under.{starts_of, goals_of}
 use Rattle.filing.specs.declared.Order.{Order}
-use Rattle.filing.specs.declared.Ordered.{Ordered}
-use Rattle.filing.specs.declared.Ordered.TheVariants as the
+use Rattle.filing.specs.Ordered.{Ordered}
 use Rattle.filing.specs.Filing.{Filed, order, refusal, filed, counts, order_in, told_of, told_by, Files}
 use Rattle.filing.proofs.Joining.{program-answers}
 use Rattle.filing.proofs.Fitting.{order-fits}
@@ -44,7 +44,7 @@ pub record Stands (map_file scenario_file : Option Text) (o : Order) (ends start
   pub answers : plan (order_in o ends starts goals) program_room ≡ program_answer map_file scenario_file
 
 module _ {map_file scenario_file : Option Text} {r : Ordered} {ends₀ ends starts₀ starts goals₀ goals : List ℕ} (f : Files map_file scenario_file r ends₀ ends starts₀ starts goals₀ goals) where
-  pub order-stands : (o : Order) → r ≡ the.Order o → 16384 ≤ length ends₀ → most_carriers ≤ length starts₀ → most_carriers ≤ length goals₀ → Stands map_file scenario_file o ends starts goals
+  pub order-stands : (o : Order) → r ≡ Ok o → 16384 ≤ length ends₀ → most_carriers ≤ length starts₀ → most_carriers ≤ length goals₀ → Stands map_file scenario_file o ends starts goals
   order-stands o e he hs hg =
       by-filed (filed map_file scenario_file)
       (λ n es cs q.
@@ -66,11 +66,11 @@ module _ {map_file scenario_file : Option Text} {r : Ordered} {ends₀ ends star
       })
       (λ d q. let y : counts o.bays o.ends o.carriers ≡ told_by (refusal d) = rw (e, q) at f.answer in never (cc))
 
-  pub refusal-stands : (d : Given) → r ≡ the.Refused d → refused (refusal_of d) ≡ program_answer map_file scenario_file
+  pub refusal-stands : (d : Given) → r ≡ Err d → refused (refusal_of d) ≡ program_answer map_file scenario_file
   refusal-stands d e =
       by-filed (filed map_file scenario_file)
-      (λ n es cs q. let y : told_of (the.Refused d) ≡ told_by (order n es cs) = rw (e, q) at f.answer in never (cc))
+      (λ n es cs q. let y : told_of (Err d) ≡ told_by (order n es cs) = rw (e, q) at f.answer in never (cc))
       (λ x q.
-      let y : told_of (the.Refused d) ≡ told_by (refusal x) = rw (e, q) at f.answer in
+      let y : told_of (Err d) ≡ told_by (refusal x) = rw (e, q) at f.answer in
       let z : refusal_of d ≡ x = cc in
       sym (program-answers map_file scenario_file ∙ rw q (ap refused (sym z))))

@@ -1,4 +1,5 @@
 -- Why every plan handed on fits the tables of slots: it passes the check, and so does what shortening leaves of it.
+use Rattle.std.proofs.Common.{Err, Ok}
 use mathlib.Core.Path.{◌≡◌, refl, sym, ◌∙◌, ap}
 use mathlib.Core.List.{List, map}
 use mathlib.Core.Bool.{Bool, true, false}
@@ -17,8 +18,7 @@ use Rattle.paper.proofs.Packing.{named-is}
 use Rattle.laws.proofs.Handing.{handed-passes, check-fits}
 use Rattle.docket.specs.declared.Refusal.{Refusal}
 use Rattle.docket.specs.Reading.{refusal_of}
-use Rattle.docket.specs.declared.Verdict.{Verdict}
-use Rattle.docket.specs.declared.Verdict.TheVariants.{Granted, Denied}
+use Rattle.docket.specs.Verdict.{Verdict}
 use Rattle.trips.specs.Trips.{shorten}
 use Rattle.trips.proofs.Shortened.{shortened-passes}
 use Rattle.print_room.specs.Short.{short_answer, short_or}
@@ -36,7 +36,7 @@ fits-same a b e f i h =
     rw same (f i (omega arith))
 
 -- a refusal has no plan to fit
-pub refused-ready : (d : Refusal) (list : List ℕ) → length list ≡ program_room → Ready (refused (refusal_of d)) (Denied d) list
+pub refused-ready : (d : Refusal) (list : List ℕ) → length list ≡ program_room → Ready (refused (refusal_of d)) (Err d) list
 refused-ready d list h = record {
   handed = record { tells = refl; stands = λ xs q. never (cc) };
   slottable = record {
@@ -57,7 +57,7 @@ module _ {o : Order} {r : Verdict} {list : List ℕ} where
     };
   }
 
-  short-fits : ShortIn o r list → (m : ℕ) → r ≡ Granted m → Fits most_bays most_bays (take m list)
+  short-fits : ShortIn o r list → (m : ℕ) → r ≡ Ok m → Fits most_bays most_bays (take m list)
   short-fits p m e =
       by_answer (plan o program_room)
       (λ xs q.
@@ -82,6 +82,6 @@ module _ {o : Order} {r : Verdict} {list : List ℕ} where
   pub plain-or-ready : {b : Bool} → b ≡ false → PlannedIn o r list → Ready (short_or b (plan o program_room)) r list
   plain-or-ready e p = rw e (plain_ready p)
 
-pub refused-or-ready : (b : Bool) (d : Refusal) (list : List ℕ) → length list ≡ program_room → Ready (short_or b (refused (refusal_of d))) (Denied d) list
+pub refused-or-ready : (b : Bool) (d : Refusal) (list : List ℕ) → length list ≡ program_room → Ready (short_or b (refused (refusal_of d))) (Err d) list
 refused-or-ready true d list h = refused-ready d list h
 refused-or-ready false d list h = refused-ready d list h

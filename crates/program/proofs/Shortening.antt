@@ -1,4 +1,5 @@
 -- An accepted plan is shortened and never refused: it passes the check, nothing of it is done, and what is left fits where the plan did.
+use Rattle.std.proofs.Common.{Err, Ok}
 use mathlib.Core.Path.{◌≡◌, refl, sym, ◌∙◌, ap}
 use mathlib.Core.Bool.{false}
 use mathlib.Core.List.{List, [], ◌++◌, map}
@@ -21,8 +22,7 @@ use Rattle.paper.proofs.Checking.{check-passed}
 use Rattle.laws.proofs.Logging.{fine-marks}
 use Rattle.docket.specs.declared.Refusal.{Refusal}
 use Rattle.docket.specs.Reading.{verdict_of}
-use Rattle.docket.specs.declared.Verdict.{Verdict}
-use Rattle.docket.specs.declared.Verdict.TheVariants.{Granted, Denied}
+use Rattle.docket.specs.Verdict.{Verdict}
 use Rattle.shorten.specs.Statements.{ShortenSays}
 use Rattle.shorten.proofs.Rooms.{take-fresh}
 use Rattle.trips.specs.Trips.{shorten}
@@ -61,21 +61,21 @@ enough k h = ap length (take-fresh 0 k 8192 h) ∙ length-replicate {A = ℕ} k 
 -- what the planner answers, and the list that it left
 module _ {o : Order} {r : Verdict} {list : List ℕ} (p : PlannedIn o r list) where
   -- a refusal stays
-  pub refusal-stays : (f : Refusal) → r ≡ Denied f → {lent : List ℕ} → length lent ≡ program_room → ShortIn o (Denied f) lent
+  pub refusal-stays : (f : Refusal) → r ≡ Err f → {lent : List ℕ} → length lent ≡ program_room → ShortIn o (Err f) lent
   refusal-stays f e {lent} h =
       by_answer (plan o program_room)
-      (λ xs q. let y : verdict_of (Denied f) ≡ told (accepted xs) = rw (e, q) at p.handed.tells in never (cc))
+      (λ xs q. let y : verdict_of (Err f) ≡ told (accepted xs) = rw (e, q) at p.handed.tells in never (cc))
       (λ d q. record {
         handed = record { tells = rw q (rw (e, q) at p.handed.tells); stands = λ zs z. let y : refused d ≡ accepted zs = rw q at z in never (cc) };
         within = record { inside = λ m y. never (cc); few = omega arith };
       })
 
-  pub marked : (m : ℕ) → r ≡ Granted m → take {A = ℕ} m (replicate 8192 0) ≡ replicate (length (take m list)) 0
+  pub marked : (m : ℕ) → r ≡ Ok m → take {A = ℕ} m (replicate 8192 0) ≡ replicate (length (take m list)) 0
   marked m e =
       let h = p.within.inside m e in
       take-fresh 0 m 8192 (omega (arith, p.sized)) ∙ ap (λ k. replicate k 0) (sym (length-take-le m list h))
 
-  module _ (m : ℕ) (e : r ≡ Granted m) (marks : List ℕ) (fresh : marks ≡ replicate (length (take m list)) 0) (lent : List ℕ) (room : length lent ≡ program_room) where
+  module _ (m : ℕ) (e : r ≡ Ok m) (marks : List ℕ) (fresh : marks ≡ replicate (length (take m list)) 0) (lent : List ℕ) (room : length lent ≡ program_room) where
     inside : length (take m list) ≤ length lent
     inside = omega (arith, length-take-le m list (p.within.inside m e), p.within.inside m e, p.sized)
 
@@ -86,14 +86,14 @@ module _ {o : Order} {r : Verdict} {list : List ℕ} (p : PlannedIn o r list) wh
       told-short : verdict_of a ≡ granted (length (shorten (crossings (take m list))))
       told-short = says.answers ∙ ap told whole
 
-      not-refused : {P : Type 0} (f : Refusal) → a ≡ Denied f → P
-      not-refused f q = let y : verdict_of (Denied f) ≡ granted (length (shorten (crossings (take m list)))) = rw q at told-short in never (cc)
+      not-refused : {P : Type 0} (f : Refusal) → a ≡ Err f → P
+      not-refused f q = let y : verdict_of (Err f) ≡ granted (length (shorten (crossings (take m list)))) = rw q at told-short in never (cc)
 
       ended-short : after ≡ map pack (shorten (crossings (take m list))) ++ drop (length (shorten (crossings (take m list)))) lent
       unfolding written
       ended-short = says.ends_as ∙ ap (λ z. written z lent) whole
 
-      written-short : (left : ℕ) → a ≡ Granted left → ShortIn o (Granted left) after
+      written-short : (left : ℕ) → a ≡ Ok left → ShortIn o (Ok left) after
       written-short left q =
           let ys = shorten (crossings (take m list)) in
           let y : granted left ≡ granted (length ys) = rw q at told-short in

@@ -1,4 +1,5 @@
 -- The planner's answer, as a verdict, and the list that it leaves: its plan's numbers read as the crossings of the paper's answer.
+use Rattle.std.proofs.Common.{Err, Ok}
 use mathlib.Core.Path.{◌≡◌, refl, sym, ◌∙◌, ap}
 use mathlib.Core.List.{List, ◌++◌, map}
 use Prim.Native.Nat.{ℕ, ◌≤◌}
@@ -13,9 +14,7 @@ use Rattle.paper.specs.Program.{program_room}
 use Rattle.paper.proofs.Tests.{never}
 use Rattle.laws.proofs.Handing.{handed-passes}
 use Rattle.docket.specs.Reading.{verdict_of}
-use Rattle.docket.specs.declared.Verdict.TheVariants.{Granted}
-use Rattle.planner.specs.declared.Planned.{Planned}
-use Rattle.planner.specs.declared.Planned.TheVariants.{Accepted, Refused}
+use Rattle.planner.specs.Planned.{Planned}
 use Rattle.planner.specs.Statement.{PlanSays, planned_of}
 use Rattle.planner.specs.Statement as planner
 use Rattle.print_room.specs.Printout.{Within, Handed}
@@ -32,12 +31,12 @@ spoken-answer (accepted xs) = refl
 spoken-answer (refused r) = refl
 
 spoken-verdict : (r : Planned) → spoken (planned_of r) ≡ verdict_of (verdict_in r)
-spoken-verdict (Accepted m) = refl
-spoken-verdict (Refused r) = refl
+spoken-verdict (Ok m) = refl
+spoken-verdict (Err r) = refl
 
-granted-accepts : (r : Planned) (m : ℕ) → verdict_in r ≡ Granted m → r ≡ Accepted m
-granted-accepts (Accepted k) m e = let y : k ≡ m = cc in ap Accepted y
-granted-accepts (Refused f) m e = never (cc)
+granted-accepts : (r : Planned) (m : ℕ) → verdict_in r ≡ Ok m → r ≡ Ok m
+granted-accepts (Ok k) m e = let y : k ≡ m = cc in ap Ok y
+granted-accepts (Err f) m e = never (cc)
 
 module _ {o : Order} {lent : List ℕ} {r : Planned} {lent' : List ℕ} (says : PlanSays o lent r lent') where
   tells : verdict_of (verdict_in r) ≡ told (plan o (length lent))

@@ -13,9 +13,8 @@ ghost use Rattle.print_room.specs.Short.{short_or, short_program};
 ghost use Rattle.print_room.specs.Ready.{Ready};
 ghost use Rattle.program.specs.Planning.{verdict_in, PlannedIn, ShortIn};
 
-use docket::Verdict;
-use filing::{Order, Ordered};
-use planner::Planned;
+use docket::Refusal;
+use filing::Order;
 use print_room::CROSSINGS;
 use yard::Yard;
 
@@ -23,35 +22,35 @@ use yard::Yard;
 const ENDS: usize = 16384;
 
 // The planner's answer as a verdict.
-fn verdict(found: Planned) -> Verdict
+fn verdict(found: Result<u64, Refusal>) -> Result<u64, Refusal>
     ensures { result ≡ verdict_in found }
 {
     match found {
-        Planned::Accepted(m) => Verdict::Granted(m),
-        Planned::Refused(r) => Verdict::Denied(r),
+        Ok(m) => Ok(m),
+        Err(r) => Err(r),
     }
 }
 
 // The plan without its there-and-back trips, in the other list. None of it is done, and there is room for all of it, so that it is never refused.
 fn shorten_planned(
-    answer: Verdict,
+    answer: Result<u64, Refusal>,
     bays: u64,
     ends: &[u16],
     starts: &[u16],
     goals: &[u16],
     plan: &[u64],
     short: &mut [u64],
-) -> Verdict
+) -> Result<u64, Refusal>
     requires { PlannedIn (order_of bays ends.now starts.now goals.now) answer plan.now × (length short.old ≡ program_room) }
     ensures { ShortIn (order_of bays ends.now starts.now goals.now) result short.new }
 {
     match answer {
-        Verdict::Granted(m) => {
+        Ok(m) => {
             let n = m as usize;
             let marks = [0u8; CROSSINGS];
             shorten::shorten(bays, ends, starts, goals, &plan[..n], &marks[..n], short)
         }
-        Verdict::Denied(r) => Verdict::Denied(r),
+        Err(r) => Err(r),
     }
 }
 
@@ -63,7 +62,7 @@ fn plan_order(
     starts: &[u16],
     goals: &[u16],
     plan: &mut [u64],
-) -> Verdict
+) -> Result<u64, Refusal>
     requires { (order.ends ≤ length ends.now)
         × (order.carriers ≤ length starts.now)
         × (order.carriers ≤ length goals.now)
@@ -97,7 +96,7 @@ pub fn answer_for(
     scenario: &[u8],
     listed: bool,
     plan: &mut [u64],
-) -> Verdict
+) -> Result<u64, Refusal>
     requires { length plan.old ≡ program_room }
     ensures { Ready (short_or shorten (program_answer (file_of mapped map.now) (file_of listed scenario.now))) result plan.new }
 {
@@ -114,8 +113,8 @@ pub fn answer_for(
         &mut goals,
     );
     match ordered {
-        Ordered::Order(order) => plan_order(shorten, order, &ends, &starts, &goals, plan),
-        Ordered::Refused(r) => Verdict::Denied(r),
+        Ok(order) => plan_order(shorten, order, &ends, &starts, &goals, plan),
+        Err(r) => Err(r),
     }
 }
 

@@ -11,12 +11,10 @@ pub fn put_text(out: &mut [u8], at: usize, text: &[u8]) -> usize
     requires { at + length text.now < 2 ^ 63 }
     ensures { Wrote out.old at text.now out.new result }
 {
-    let mut i = 0;
-    while i < text.len() {
-        stores::byte(out, at + i, text[i]);
-        i += 1;
+    for (i, b) in text.iter().enumerate() {
+        stores::store(out, at + i, *b);
     }
-    at + i
+    at + text.len()
 }
 
 // A number's digits, the higher ones first.
@@ -25,11 +23,11 @@ pub fn put_number(out: &mut [u8], at: usize, n: u64) -> usize
     ensures { Wrote out.old at (decimal n) out.new result }
 {
     if n < 10 {
-        stores::byte(out, at, 48 + (n as u8));
+        stores::store(out, at, 48 + (n as u8));
         return at + 1;
     }
     let end = put_number(out, at, n / 10);
-    stores::byte(out, end, 48 + ((n % 10) as u8));
+    stores::store(out, end, 48 + ((n % 10) as u8));
     end + 1
 }
 

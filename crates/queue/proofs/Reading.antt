@@ -25,7 +25,7 @@ module _ (before path : List ℕ) (d i u : ℕ) where
         let size : i < length (set path i u) = simp length-set there in
         rw (drop-cons (set path i u) i 0 size, get_or-set_same path i u 0 there, drop-set-lt (suc i) path i u (omega arith), add-one)
 
-    pub read_more : 0 < i → back before i u behind ≡ back before (i - 1) (get_or before u 0) (take (d - (i - 1)) (drop (i - 1 + 1) (set path i u)))
+    pub read_more : 0 < i → back before i u behind ≡ back before (i - 1) (get_or before u 0) (take (d - (i - 1)) (drop (i - 1 + 1) (set path (i - 1 + 1) u)))
     unfolding back
     read_more h =
         let e : i ≡ suc (i - 1) = omega arith in

@@ -13,6 +13,7 @@ fn enqueue(i: usize, word: u64, a: u16, met: &mut [u16], before: &mut [u16], cou
 {
     let mut left = word;
     let mut c = count;
+    // Each turn takes the lowest bit off the word: a `for` would count the bits first.
     while left != 0 {
         let y = i * 64 + u64::trailing_zeros(left) as usize;
         left = left & (left - 1);
@@ -59,10 +60,8 @@ fn meet(
         seen.new met.new before.new result }
 {
     let mut c = count;
-    let mut i = 0;
-    while i < words::WORDS {
+    for i in 0..words::WORDS {
         c = meet_word(table, a, i, seen, met, before, c);
-        i += 1;
     }
     c
 }
@@ -81,11 +80,9 @@ pub fn pass(
     ensures { PassSays n table.now start count seen.old met.old before.old
         seen.new met.new before.new result }
 {
-    let mut done = start;
     let mut c = count;
-    while done < count {
+    for done in start..count {
         c = meet(table, met[done], seen, met, before, c);
-        done += 1;
     }
     c
 }
@@ -95,12 +92,10 @@ pub fn trace(before: &[u16], e: usize, d: usize, path: &mut [u16])
     requires { TraceAsks before.now e d path.old }
     ensures { take (d + 1) path.new ≡ back before.now d e [] }
 {
-    let mut i = d;
     let mut u = e;
-    while 0 < i {
-        path[i] = u as u16;
+    for i in (0..d).rev() {
+        path[i + 1] = u as u16;
         u = before[u] as usize;
-        i -= 1;
     }
     path[0] = u as u16;
 }

@@ -1,4 +1,5 @@
 -- A file's lines one by one: what is left of the file reads, behind the numbers so far, as the whole does.
+use Rattle.std.proofs.Common.{Err, Ok}
 use mathlib.Core.Path.{◌≡◌, refl, sym, ◌∙◌, ap}
 use mathlib.Core.Bool.{Bool, true, false}
 use mathlib.Core.List.{List, [], ◌++◌, append-nil}
@@ -17,7 +18,6 @@ use Rattle.readback.specs.Entries.{behind, entry_line, read_entries}
 use Rattle.readback.specs.Steps.{numbers_of, is_broken, count_in, Folds}
 use Rattle.line_entries.specs.declared.Entry.{Entry}
 use Rattle.line_entries.specs.declared.Entry.TheVariants.{Number, Comment, Broken}
-use Rattle.readback.specs.declared.Found.TheVariants.{Numbers, Bad}
 
 -- a line adds one number at most
 pub numbers-few : (e : Entry) → length (numbers_of e) ≤ 1
@@ -59,7 +59,7 @@ module _ (reports : Bool) (file : Text) (before : List ℕ) where
             rw (add-one line) (sym step ∙ w.left);
       }
 
-      pub came-bad : (e : Entry) → e ≡ entry_in reports (part file at stop) → is_broken e ≡ true → Folds reports file before (Bad line) after
+      pub came-bad : (e : Entry) → e ≡ entry_in reports (part file at stop) → is_broken e ≡ true → Folds reports file before (Err line) after
       unfolding read_lines
       came-bad e q h =
           let bad-line : entry_line reports w.numbers (part file at stop) ≡ none = ap (behind w.numbers) (sym q) ∙ behind-bad w.numbers e h in
@@ -71,7 +71,7 @@ module _ (reports : Bool) (file : Text) (before : List ℕ) where
             stored = λ ns g. let z : bad_line line ≡ good ns = sym whole ∙ g in let y : ◌≡◌ {A = ℕ} 0 1 = cc in absurd (omega arith);
           }
 
-    pub came-end : lines (drop at file) ≡ [] → Folds reports file before (Numbers count) after
+    pub came-end : lines (drop at file) ≡ [] → Folds reports file before (Ok count) after
     unfolding read_lines
     came-end e =
         let last : read_lines (entry_line reports) some line w.numbers (lines (drop at file)) ≡ good w.numbers = rw e in

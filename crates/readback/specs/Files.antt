@@ -5,7 +5,7 @@ use Rattle.paper.specs.Yard.{most_crossings}
 use Rattle.paper.specs.Docket.{Verdict, denied, size, bad_plan, bad_reports}
 use Rattle.paper.specs.Text.{Text, Read, good, bad_line}
 use Rattle.docket.specs.Reading.{verdict_of}
-use Rattle.docket.specs.declared.Verdict.{Verdict as Answered}
+use Rattle.docket.specs.Verdict.{Verdict as Answered}
 use Rattle.handing.specs.Handing.{fitted, handed}
 use Rattle.readback.specs.Entries.{read_entries}
 

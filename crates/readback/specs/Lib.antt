@@ -1,3 +1,4 @@
 pub mod Entries
 pub mod Steps
 pub mod Files
+pub mod Found

@@ -6,25 +6,9 @@ ghost use Rattle.stores.specs.Writing.{Wrote};
 ghost use Rattle.readback.specs.Files.{Gives, PlanRead, ReportsRead};
 ghost use Rattle.readback.specs.Steps.{numbers_of, is_broken, Folds};
 
-use docket::{Refusal, Verdict};
+use docket::Refusal;
 use line_entries::Entry;
-use lines::FoundLine;
-
-// How many numbers a file has, or its first bad line.
-#[derive(Clone, Copy)]
-enum Found {
-    Numbers(usize),
-    Bad(u64),
-}
-
-// One number, if there is room for it.
-fn store(out: &mut [u64], at: usize, n: u64)
-    ensures { out.new ≡ set out.old at n }
-{
-    if at < out.len() {
-        out[at] = n;
-    }
-}
+use lines::Line;
 
 // The number of a line behind those before it; answers how many there are then.
 fn keep(said: Entry, out: &mut [u64], count: usize) -> usize
@@ -33,7 +17,7 @@ fn keep(said: Entry, out: &mut [u64], count: usize) -> usize
 {
     match said {
         Entry::Number(n) => {
-            store(out, count, n);
+            stores::store(out, count, n);
             count + 1
         }
         Entry::Comment => count,
@@ -52,19 +36,19 @@ fn is_broken(said: Entry) -> bool
 }
 
 // All lines of a file, their numbers stored as far as there is room.
-fn fold(reports: bool, file: &[u8], out: &mut [u64]) -> Found
+fn fold(reports: bool, file: &[u8], out: &mut [u64]) -> Result<usize, u64>
     ensures { Folds reports file.now out.old result out.new }
 {
     let mut at = 0;
     let mut line: u64 = 1;
     let mut count = 0;
     loop {
-        let FoundLine::Text { end: stop, next } = lines::next_line(file, at) else {
-            return Found::Numbers(count);
+        let Some(Line { end: stop, next }) = lines::next_line(file, at) else {
+            return Ok(count);
         };
         let said = line_entries::of_line(reports, &file[at..stop]);
         if is_broken(said) {
-            return Found::Bad(line);
+            return Err(line);
         }
         count = keep(said, out, count);
         at = next;
@@ -73,42 +57,42 @@ fn fold(reports: bool, file: &[u8], out: &mut [u64]) -> Found
 }
 
 // The numbers of a good file, of which there are so many, handed over.
-fn give(reports: bool, file: &[u8], count: usize, out: &mut [u64]) -> Verdict
+fn give(reports: bool, file: &[u8], count: usize, out: &mut [u64]) -> Result<u64, Refusal>
     ensures { Gives reports file.now count out.old result out.new }
 {
     let n = count as u64;
     if count <= out.len() {
-        fold(reports, file, out);
-        return Verdict::Granted(n);
+        let _ = fold(reports, file, out);
+        return Ok(n);
     }
-    Verdict::Denied(Refusal::Room(n))
+    Err(Refusal::Room(n))
 }
 
 // A printed plan. It is read once without room, so that a refusal changes nothing.
-pub fn plan(file: &[u8], out: &mut [u64]) -> Verdict
+pub fn plan(file: &[u8], out: &mut [u64]) -> Result<u64, Refusal>
     ensures { PlanRead file.now out.old result out.new }
 {
     let mut none = [0u64; 1];
     let found = fold(false, file, &mut none);
     match found {
-        Found::Numbers(count) => {
+        Ok(count) => {
             if paper::CROSSINGS < count {
-                return Verdict::Denied(Refusal::Size);
+                return Err(Refusal::Size);
             }
             give(false, file, count, out)
         }
-        Found::Bad(line) => Verdict::Denied(Refusal::BadPlan(line)),
+        Err(line) => Err(Refusal::BadPlan(line)),
     }
 }
 
 // Reported names, read in the same way.
-pub fn reports(file: &[u8], out: &mut [u64]) -> Verdict
+pub fn reports(file: &[u8], out: &mut [u64]) -> Result<u64, Refusal>
     ensures { ReportsRead file.now out.old result out.new }
 {
     let mut none = [0u64; 1];
     let found = fold(true, file, &mut none);
     match found {
-        Found::Numbers(count) => give(true, file, count, out),
-        Found::Bad(line) => Verdict::Denied(Refusal::BadReports(line)),
+        Ok(count) => give(true, file, count, out),
+        Err(line) => Err(Refusal::BadReports(line)),
     }
 }

@@ -1,4 +1,5 @@
 -- A map that was read: its numbered cells give the map's own rails, and a scenario reads by them as it does by the map.
+use Rattle.std.proofs.Common.{Err, Ok}
 use mathlib.Core.Path.{◌≡◌, ◌∙◌, ap}
 use mathlib.Core.List.{List}
 use Prim.Native.Nat.{ℕ, ◌*◌, ◌≤◌}
@@ -11,8 +12,7 @@ use Rattle.paper.specs.Map.{Grid, read_map, cells, bay_count, bay_in, rail_ends}
 use Rattle.paper.specs.Scenario.{read_scenario}
 use Rattle.paper.proofs.Tests.{never, by_read}
 use Rattle.gridmap.specs.declared.Grid.{Grid as Held}
-use Rattle.gridmap.specs.declared.MapRead.{MapRead}
-use Rattle.gridmap.specs.declared.MapRead.TheVariants as map_read
+use Rattle.gridmap.specs.MapRead.{MapRead}
 use Rattle.gridmap.specs.Cells.{numbering, rails_in, bay_found, shape_of, Reads}
 use Rattle.gridmap.proofs.Good.{map-sized}
 use Rattle.gridmap.proofs.OfMap.{rails-of-map}
@@ -21,7 +21,7 @@ use Rattle.scenario.proofs.OfMap.{reads-of-map}
 use Rattle.listing.specs.Reading.{laid, laying, listing, listing_in}
 
 module _ {file before table : List ℕ} {r : MapRead} (m : Reads file before r table) where
-  pub map-bad : (l : ℕ) → r ≡ map_read.Bad l → read_map file ≡ bad_line l
+  pub map-bad : (l : ℕ) → r ≡ Err l → read_map file ≡ bad_line l
   map-bad l e =
       by_read (read_map file)
       (λ G q. let y : bad_line l ≡ shape_of (good G) = rw (e, q) at m.answer in never (cc))
@@ -38,7 +38,7 @@ pub record Mapped (file : Text) (g : Held) (table : List ℕ) : Type 0 where
   pub rails : rails_in table g.height g.width ≡ rail_ends grid
   pub listed : (t : Text) → read_scenario g.width g.height (bay_by table g) t ≡ read_scenario grid.width grid.height (bay_in grid) t
 
-pub mapped : {file before table : List ℕ} {g : Held} → Reads file before (map_read.Grid g) table → 4096 ≤ length before → Mapped file g table
+pub mapped : {file before table : List ℕ} {g : Held} → Reads file before (Ok g) table → 4096 ≤ length before → Mapped file g table
 mapped {file} {before} {table} {g} m fits =
     by_read (read_map file)
     (λ G q.
@@ -59,7 +59,7 @@ mapped {file} {before} {table} {g} m fits =
     })
     (λ n q. let y : ◌≡◌ {A = Read (ℕ × ℕ × ℕ)} (good (g.height, g.width, g.bays)) (bad_line n) = rw q at m.answer in never (cc))
 
-pub mapped-as : {file before table : List ℕ} {r : MapRead} {g : Held} → Reads file before r table → r ≡ map_read.Grid g → 4096 ≤ length before → Mapped file g table
+pub mapped-as : {file before table : List ℕ} {r : MapRead} {g : Held} → Reads file before r table → r ≡ Ok g → 4096 ≤ length before → Mapped file g table
 mapped-as m e fits = mapped (rw e at m) fits
 
 module _ {file table : List ℕ} {g : Held} (m : Mapped file g table) where

@@ -1,4 +1,5 @@
 -- The shorter plan and the lent list, way out by way out: 8, or the plan is written.
+use Rattle.std.proofs.Common.{Err, Ok}
 use mathlib.Core.Path.{◌≡◌, sym, ◌∙◌, ap, ap₂}
 use mathlib.Core.Bool.{true, false}
 use mathlib.Core.List.{List, ◌++◌, map}
@@ -13,7 +14,6 @@ use Rattle.paper.specs.Answers.{unless, written}
 use Rattle.paper.proofs.Tests.{or_left, or-neither}
 use Rattle.paper.proofs.Packing.{packed-back}
 use Rattle.docket.specs.declared.Refusal.TheVariants.{Room}
-use Rattle.docket.specs.declared.Verdict.TheVariants.{Granted, Denied}
 use Rattle.trips.specs.Trips.{shorten}
 use Rattle.trips.specs.Names.{left}
 use Rattle.trips.specs.Shortening.{into_room}
@@ -30,7 +30,7 @@ module _ (plan gone out : List ℕ) (done : left gone (crossings plan) ≡ short
   count : length (left gone plan) ≡ length (shorten (crossings plan))
   count = ap length numbers ∙ length-map (shorten (crossings plan)) pack
 
-  pub room-refused : (n : ℕ) → n ≡ length (left gone plan) → length out < n → RoomSays plan out (Denied (Room n)) out
+  pub room-refused : (n : ℕ) → n ≡ length (left gone plan) → length out < n → RoomSays plan out (Err (Room n)) out
   unfolding into_room unless written
   room-refused n e h =
       let is : n ≡ length (shorten (crossings plan)) = e ∙ count in
@@ -39,7 +39,7 @@ module _ (plan gone out : List ℕ) (done : left gone (crossings plan) ≡ short
       record { answers = rw (over, is); ends = rw over }
 
   pub room-written : (n : ℕ) (out' : List ℕ) → length plan ≤ most_crossings → n ≡ length (left gone plan) → n ≤ length out
-      → out' ≡ left gone plan ++ drop (length (left gone plan)) out → RoomSays plan out (Granted n) out'
+      → out' ≡ left gone plan ++ drop (length (left gone plan)) out → RoomSays plan out (Ok n) out'
   unfolding into_room unless written
   room-written n out' small e h w =
       let ys = shorten (crossings plan) in

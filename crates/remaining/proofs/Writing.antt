@@ -1,10 +1,12 @@
 -- What is still in the plan is counted and written name by name: what is written so far and then what is left of the rest is the whole.
-use Rattle.std.specs.Prelude.{if◌then◌else◌}
+use Rattle.std.specs.Prelude.{cond, count_by}
+use Rattle.std.proofs.lemmas.List.Sums.{sum_by-cons}
 use mathlib.Core.Path.{◌≡◌, refl, sym, ◌∙◌, ap, ap₂}
 use mathlib.Core.List.{List, [], ◌∷◌, ◌++◌, append-nil}
 use Prim.Native.Nat.{ℕ, suc, ◌≤◌, ◌<◌, ◌+◌}
 use native.Mathlib.Omega.{arith}
 use native.Mathlib.Numerals.{add-one}
+use mir.Val.{bool_byte}
 use lib.Dec.{eqb, ltb}
 use lib.ListN.{length, get_or, take, drop, set, length-set, take-append-drop, drop_of_length-le}
 use lib.Seq.{drop-cons, take-set-le, take-suc-set, drop-set-lt, append_snoc}
@@ -33,24 +35,14 @@ pub rest_end : (plan gone : List ℕ) (m : ℕ) → length plan ≤ m → length
 unfolding left
 rest_end plan gone m h len = rw (drop_of_length-le gone {i = m} (omega arith))
 
-pub one-small : (g : ℕ) → (if eqb g 0 then 1 else 0) ≤ 1
-one-small g = by_cases (eqb g 0) (λ e. rw e (omega arith)) (λ e. rw e (omega arith))
-
-pub count_next : (plan gone : List ℕ) (n m v t : ℕ) → m < length plan → length gone ≡ length plan → v ≡ (if eqb (get_or gone m 0) 0 then 1 else 0)
-    → n + length (rest plan gone m) ≡ t → (n + v) + length (rest plan gone (m + 1)) ≡ t
-count_next plan gone n m v t l len is h =
-    by_byte (get_or gone m 0)
-    (λ z.
-    let one : v ≡ 1 = is ∙ ap (λ b. if b then 1 else 0) (eq-eqb _ _ z) in
-    let more : length (rest plan gone m) ≡ suc (length (rest plan gone (m + 1))) = rw (add-one m) (ap length (rest_in plan gone m l len z)) in
-    omega arith)
-    (λ z.
-    let none : v ≡ 0 = is ∙ ap (λ b. if b then 1 else 0) (ne_eqb _ _ z) in
-    let same : length (rest plan gone m) ≡ length (rest plan gone (m + 1)) = rw (add-one m) (ap length (rest_out plan gone m l len z)) in
-    omega arith)
-
-pub count-end : (plan gone : List ℕ) (n m t : ℕ) → length plan ≤ m → length gone ≡ length plan → n + length (rest plan gone m) ≡ t → n ≡ t
-count-end plan gone n m t h len e = omega (arith, ap length (rest_end plan gone m h len))
+-- as many bytes are 0 as crossings are left
+pub zeros-left : (gone plan : List ℕ) → length gone ≡ length plan → count_by (λ byte. eqb byte 0) gone ≡ length (left gone plan)
+unfolding left
+zeros-left [] plan h = refl
+zeros-left (g ∷ gone) [] h = absurd (omega arith)
+zeros-left (g ∷ gone) (x ∷ plan) h =
+    let ih = zeros-left gone plan (omega arith) in
+    sum_by-cons (λ byte. cond (eqb byte 0) 1 0) g gone ∙ by_cases (eqb g 0) (λ e. rw e (omega (arith, ih))) (λ e. rw e (omega (arith, ih)))
 
 -- n numbers are written, of the first m names
 pub record Writing (plan gone out₀ out : List ℕ) (n m : ℕ) : Type 0 where
@@ -102,12 +94,12 @@ module _ (plan gone out₀ : List ℕ) (len : length gone ≡ length plan) where
           beyond = drop-set-lt (length (left gone plan)) out n (get_or plan m 0) (omega arith) ∙ w.beyond;
         }
 
-    pub writing-next : (k : ℕ) → k ≡ (if eqb (get_or gone m 0) 0 then 1 else 0) → Writing plan gone out₀ (set out n (get_or plan m 0)) (n + k) (m + 1)
+    pub writing-next : (k : ℕ) → k ≡ bool_byte (eqb (get_or gone m 0) 0) → Writing plan gone out₀ (set out n (get_or plan m 0)) (n + k) (m + 1)
     writing-next k is =
         by_byte (get_or gone m 0)
-        (λ z. let one : k ≡ 1 = is ∙ ap (λ b. if b then 1 else 0) (eq-eqb _ _ z) in rw one (writing-in z))
+        (λ z. let one : k ≡ 1 = is ∙ ap bool_byte (eq-eqb _ _ z) in rw one (writing-in z))
         (λ z.
-        let none : n + k ≡ n = let zero_more : k ≡ 0 = is ∙ ap (λ b. if b then 1 else 0) (ne_eqb _ _ z) in omega arith in
+        let none : n + k ≡ n = let zero_more : k ≡ 0 = is ∙ ap bool_byte (ne_eqb _ _ z) in omega arith in
         rw none (writing-out z))
 
   pub writing-end : (out : List ℕ) (n m : ℕ) → length (left gone plan) ≤ n → Writing plan gone out₀ out n m → out ≡ left gone plan ++ drop (length (left gone plan)) out₀

@@ -4,7 +4,7 @@ use Rattle.std.specs.Prelude.{◌≡◌, List, ℕ, ◌≤◌, length}
 use Rattle.paper.specs.Yard.{crossings}
 use Rattle.paper.specs.Answers.{told, written}
 use Rattle.docket.specs.Reading.{verdict_of}
-use Rattle.docket.specs.declared.Verdict.{Verdict}
+use Rattle.docket.specs.Verdict.{Verdict}
 use Rattle.trips.specs.Trips.{shorten}
 use Rattle.trips.specs.Names.{left}
 use Rattle.trips.specs.Shortening.{into_room}

@@ -14,7 +14,7 @@ use lib.Seq.{take-suc, take-length, get_or-set_same, get_or-set_other}
 use Rattle.paper.specs.Basics.{◌and◌, ◌or◌, elem, In}
 use Rattle.paper.specs.Yard.{Yard, Bay, Carrier, Placement, Crossing, bay_of, carrier_at, move, after, legal, crossings, named}
 use Rattle.paper.specs.Docket.{first_illegal}
-use Rattle.paper.proofs.Tests.{by_cases, never-some, or_right, and-true, or-false}
+use Rattle.paper.proofs.Tests.{by_cases, never-some, or_right, and-true}
 use Rattle.paper.proofs.Members.{elem-last}
 use Rattle.paper.proofs.Playing.{Legal, legal-facts, bay-in, place_of-there, place_of-bay, move-self, move-other, move-apart, move-empties, move-out}
 use Rattle.plans.proofs.Rest.{rest-next, rest-none}

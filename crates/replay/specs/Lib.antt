@@ -1,1 +1,3 @@
 pub mod Playing
+pub mod Legality
+pub mod Away

@@ -1,6 +1,6 @@
 -- What playing a plan starts from and what it leaves, and how the code's answers read as the paper's.
 -- Assumes nothing.
-use Rattle.std.specs.Prelude.{◌≡◌, Bool, true, List, ℕ, ◌*◌, ◌≤◌, ◌<◌, ltb, length, if◌then◌else◌}
+use Rattle.std.specs.Prelude.{◌≡◌, Bool, true, List, ℕ, ◌*◌, ◌≤◌, ◌<◌, ltb, length, if◌then◌else◌, Err, None, Ok, Some}
 use Rattle.std.proofs.Math.Option.{Option, none, some}
 use Rattle.paper.specs.Basics.{elem}
 use Rattle.paper.specs.Yard.{Yard, Bay, Carrier, Placement, Crossing, bay_of, after, legal}
@@ -9,10 +9,8 @@ use Rattle.paper.proofs.Playing.{Apart}
 use Rattle.paper.proofs.Marking.{flag}
 use Rattle.words.specs.Sets.{words, span}
 use Rattle.yard.specs.Table.{Table}
-use Rattle.replay.specs.declared.Legality.{Legality}
-use Rattle.replay.specs.declared.Legality.TheVariants.{Legal, Illegal}
-use Rattle.replay.specs.declared.Away.{Away}
-use Rattle.replay.specs.declared.Away.TheVariants.{Nobody, Lowest}
+use Rattle.replay.specs.Legality.{Legality}
+use Rattle.replay.specs.Away.{Away}
 
 -- a place for each bay; the bays of the placement are marked by 1, and no other
 pub record Occupied (at : Placement) (occupied : List ℕ) : Type 0 where
@@ -52,9 +50,9 @@ unfoldable pub legal_to : ℕ → ℕ → Option ℕ
 legal_to i count = if ltb i count then some i else none
 
 abbrev pub legality_of : Legality → Option ℕ
-legality_of Legal = none
-legality_of (Illegal i) = some i
+legality_of (Ok tt) = none
+legality_of (Err i) = some i
 
 abbrev pub away_of : Away → Option ℕ
-away_of Nobody = none
-away_of (Lowest c) = some c.0
+away_of None = none
+away_of (Some c) = some c.0

@@ -50,8 +50,7 @@ fn play_legal(
     ensures { PlayedFrom rows table.now at.old occupied.old (crossings plan.now)
         (legal_to result (length plan.now)) at.new }
 {
-    let mut i = 0;
-    while i < plan.len() {
+    for i in 0..plan.len() {
         let x = plans::crossing_at(plan, i);
         if !is_legal(table, rows, at, occupied, x) {
             return i;
@@ -62,16 +61,8 @@ fn play_legal(
         at[carrier] = x.to.0;
         occupied[from] = 0;
         occupied[to] = 1;
-        i += 1;
     }
-    i
-}
-
-// Whether all crossings of a plan are legal in their turn, or the name of the first that is not.
-#[derive(Clone, Copy)]
-pub enum Legality {
-    Legal,
-    Illegal(u64),
+    plan.len()
 }
 
 // Plays the plan as far as it is legal, by a table with so many rows.
@@ -81,15 +72,15 @@ pub fn play(
     at: &mut [u16],
     occupied: &mut [u8; SPAN],
     plan: &[u64],
-) -> Legality
+) -> Result<(), u64>
     requires { InRows rows table.now at.old }
     ensures { PlayedFrom rows table.now at.old occupied.old (crossings plan.now) (legality_of result) at.new }
 {
     let legal = play_legal(table, rows, at, occupied, plan);
     if legal < plan.len() {
-        return Legality::Illegal(legal as u64);
+        return Err(legal as u64);
     }
-    Legality::Legal
+    Ok(())
 }
 
 // The marks of the bays of a placement, where none is marked yet.
@@ -97,32 +88,20 @@ pub fn occupy(at: &[u16], occupied: &mut [u8; SPAN])
     requires { ((c : ℕ) → c < length at.now → get_or at.now c 0 < span) × Occupied [] occupied.old }
     ensures { Occupied at.now occupied.new }
 {
-    let mut c = 0;
-    while c < at.len() {
-        let b = at[c] as usize;
-        occupied[b] = 1;
-        c += 1;
+    for bay in at {
+        occupied[*bay as usize] = 1;
     }
-}
-
-// Who is not home.
-#[derive(Clone, Copy)]
-pub enum Away {
-    Nobody,
-    Lowest(Carrier),
 }
 
 // The lowest carrier that is not at its goal.
-pub fn lowest_away(at: &[u16], goal: &[u16]) -> Away
+pub fn lowest_away(at: &[u16], goal: &[u16]) -> Option<Carrier>
     requires { (length at.now ≡ length goal.now) × (length goal.now ≤ span) }
     ensures { away_of result ≡ not_home goal.now at.now }
 {
-    let mut c = 0;
-    while c < goal.len() {
+    for c in 0..goal.len() {
         if at[c] != goal[c] {
-            return Away::Lowest(Carrier(c as u32));
+            return Some(Carrier(c as u32));
         }
-        c += 1;
     }
-    Away::Nobody
+    None
 }

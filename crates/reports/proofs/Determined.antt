@@ -9,7 +9,7 @@ use Rattle.paper.proofs.Determined.{Determined, determined-by}
 use Rattle.marks.specs.Reading.{report_of}
 use Rattle.marks.proofs.Back.{reports-told-apart}
 use Rattle.checker.specs.Reading.{checked_of}
-use Rattle.checker.specs.declared.Checked.{Checked}
+use Rattle.checker.specs.Checked.{Checked}
 use Rattle.checker.proofs.Back.{checks-told-apart}
 use Rattle.reports.specs.Statements.{SlotsSay, ReportSays}
 

@@ -1,5 +1,6 @@
 -- What slots and report say, way out by way out: the check's refusal first; once it has passed the plan's numbers fit the tables,
 -- and the rest is what the passes give.
+use Rattle.std.proofs.Common.{Err, Ok}
 use mathlib.Core.Path.{◌≡◌, sym, ◌∙◌, ap}
 use mathlib.Core.Bool.{true, false}
 use mathlib.Core.List.{List, ◌++◌}
@@ -27,7 +28,6 @@ use Rattle.marks.specs.Reading.{report_of}
 use Rattle.marks.specs.declared.Reported.{Reported}
 use Rattle.marks.specs.declared.Reported.TheVariants as told
 use Rattle.reports.specs.Statements.{SlotsSay, ReportSays}
-use Rattle.checker.specs.declared.Checked.TheVariants as checked
 
 -- an accepted name has a mark
 pub has-mark : (plan marks : List ℕ) (name : ℕ) → tell (crossings plan) marks name ≡ accept → name < length marks
@@ -36,7 +36,7 @@ has-mark plan marks name h =
     rw (marks-long (crossings plan) marks f.0) f.1
 
 module _ (o : Order) (plan : List ℕ) where
-  pub slots_refused : (out : List ℕ) (r : Refusal) → some (refusal_of r) ≡ check o plan → SlotsSay o plan out (checked.Refused r) out
+  pub slots_refused : (out : List ℕ) (r : Refusal) → some (refusal_of r) ≡ check o plan → SlotsSay o plan out (Err r) out
   unfolding slots_refusal slots_end
   slots_refused out r h = record { answers = rw (← h); leaves = rw (← h) }
 
@@ -52,14 +52,14 @@ module _ (o : Order) (plan : List ℕ) where
     pub short : length plan ≤ most_crossings
     short = (clean_of o (length plan) (check-passed o plan (sym passes)).sound).sizes.short-plan
 
-    pub slots-room : (out : List ℕ) → length out < length plan → SlotsSay o plan out (checked.Refused (Room (length plan))) out
+    pub slots-room : (out : List ℕ) → length out < length plan → SlotsSay o plan out (Err (Room (length plan))) out
     unfolding slots_refusal slots_end
     slots-room out h =
         let over : (ltb (length out) (length plan) or ltb most_crossings (length plan)) ≡ true = or_left _ _ (lt-ltb (length out) (length plan) h) in
         record { answers = rw (← passes, over); leaves = rw (← passes, over) }
 
     pub slots_written : (out out' : List ℕ) → length plan ≤ length out → out' ≡ slots_of (crossings plan) ++ drop (length plan) out
-        → SlotsSay o plan out checked.Passed out'
+        → SlotsSay o plan out (Ok tt) out'
     unfolding slots_refusal slots_end
     slots_written out out' h e =
         let room : (ltb (length out) (length plan) or ltb most_crossings (length plan)) ≡ false =

@@ -4,7 +4,7 @@ use Rattle.std.specs.Prelude.{◌≡◌, List, ℕ, length}
 use Rattle.paper.specs.Order.{Order}
 use Rattle.paper.specs.Answers.{slots_refusal, slots_end, report, marks_end}
 use Rattle.checker.specs.Reading.{checked_of}
-use Rattle.checker.specs.declared.Checked.{Checked}
+use Rattle.checker.specs.Checked.{Checked}
 use Rattle.marks.specs.Reading.{report_of}
 use Rattle.marks.specs.declared.Reported.{Reported}
 

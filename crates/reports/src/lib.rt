@@ -4,7 +4,6 @@
 ghost use Rattle.paper.specs.Order.{order};
 ghost use Rattle.reports.specs.Statements.{SlotsSay, ReportSays};
 
-use checker::Checked;
 use docket::Refusal;
 use marks::Reported;
 
@@ -16,19 +15,16 @@ pub fn slots(
     goal: &[u16],
     plan: &[u64],
     out: &mut [u32],
-) -> Checked
+) -> Result<(), Refusal>
     ensures { SlotsSay (order bays rails.now start.now goal.now)
         plan.now out.old result out.new }
 {
-    let checked = checker::check(bays, rails, start, goal, plan);
-    if let Checked::Refused(r) = checked {
-        return Checked::Refused(r);
-    }
+    checker::check(bays, rails, start, goal, plan)?;
     if out.len() < plan.len() {
-        return Checked::Refused(Refusal::Room(plan.len() as u64));
+        return Err(Refusal::Room(plan.len() as u64));
     }
     slots::slot_pass(plan, out);
-    Checked::Passed
+    Ok(())
 }
 
 // A report of a name, on a plan that passes the check and marks that are in order. Acceptance changes the mark of that name; nothing else changes any.
@@ -45,7 +41,7 @@ pub fn report(
         plan.now marks.old name result marks.new }
 {
     let checked = checker::check(bays, rails, start, goal, plan);
-    if let Checked::Refused(r) = checked {
+    if let Err(r) = checked {
         return Reported::Refused(r);
     }
     let answer = marks::tell(plan, marks, name);

@@ -1,28 +1,22 @@
 -- The search for the last return goes up name by name: a crossing that is dropped or leads elsewhere is passed, a return of the carrier is the
 -- last so far, and another carrier's entering ends it.
-use Rattle.std.specs.Prelude.{if◌then◌else◌}
 use mathlib.Core.Path.{◌≡◌, refl, sym, ◌∙◌, ap}
-use mathlib.Core.Bool.{true, false}
 use mathlib.Core.List.{List, [], ◌∷◌}
 use mathlib.Core.Option.{Option, none, some}
 use Prim.Native.Nat.{ℕ, zero, suc, ◌≤◌, ◌<◌, ◌+◌}
 use native.Mathlib.Omega.{arith}
 use native.Mathlib.Numerals.{add-one}
-use lib.Dec.{eqb, ltb}
 use lib.ListN.{length, get_or, drop, drop_of_length-le}
 use lib.Seq.{drop-cons}
-use borrow.Author.Tests.{eqb-true, lt-ltb}
-use Rattle.paper.specs.Basics.{◌and◌, ◌>>=◌, or_else}
+use borrow.Author.Tests.{eq-eqb, ne_eqb}
+use Rattle.paper.specs.Basics.{◌>>=◌, or_else}
 use Rattle.paper.specs.Yard.{Crossing, crossings, named}
-use Rattle.paper.proofs.Tests.{and_left, and_right, by-option}
+use Rattle.paper.proofs.Tests.{by-option}
 use Rattle.plans.proofs.Rest.{rest-next}
-use Rattle.trips.specs.Trips.{enters, is_of}
 use Rattle.trips.specs.Names.{last_place}
 use Rattle.trips.proofs.Naming.{place-past, place-back, place-barred, NoTrip}
 use Rattle.chains.specs.Links.{Passed}
 use Rattle.returning.specs.Returns.{name_at, last_from}
-use Rattle.returning.proofs.Passing.{passed-fails}
-use Rattle.returning.proofs.Asking.{in-fails}
 
 name-past : (last m : ℕ) (o : Option ℕ) → name_at last m (o >>= λ n. some (suc n)) ≡ name_at last (suc m) o
 name-past last m none = refl
@@ -36,10 +30,6 @@ none_left : (x : Crossing) (ys : List Crossing) → last_place x.carrier x.from 
 unfolding last_place
 none_left x ys = refl
 
--- of two returns the later is the last
-pub later-one : (last m r : ℕ) → last < m → r ≡ (if ltb last m then m else last) → r ≡ m
-later-one last m r l e = e ∙ ap (λ t. if t then m else last) (lt-ltb last m l)
-
 module _ (plan gone : List ℕ) (same : length gone ≡ length plan) (x : Crossing) (last m : ℕ) where
   abbrev g : ℕ
   g = get_or gone m 0
@@ -51,26 +41,26 @@ module _ (plan gone : List ℕ) (same : length gone ≡ length plan) (x : Crossi
       ≡ last_place x.carrier x.from (g ∷ drop (suc m) gone) (y ∷ drop (suc m) (crossings plan))
   here l = rw (drop-cons gone m 0 (omega arith), rest-next plan m l)
 
-  pub returning-past : m < length plan → eqb g 0 and enters x.from y ≡ false
+  pub returning-past : m < length plan → (g ≡ 0 → y.to ≡ x.from → ⊥)
       → last_from x (crossings plan) gone last (m + 1) ≡ last_from x (crossings plan) gone last m
-  returning-past l t =
+  returning-past l n =
       rw (add-one m)
-      (sym (ap (name_at last m) (here l ∙ place-past x.carrier x.from g (drop (suc m) gone) y (drop (suc m) (crossings plan)) (in-fails g _ t))
+      (sym (ap (name_at last m) (here l ∙ place-past x.carrier x.from g (drop (suc m) gone) y (drop (suc m) (crossings plan)) (λ z. ne_eqb _ _ (n z)))
       ∙ name-past last m (last_place x.carrier x.from (drop (suc m) gone) (drop (suc m) (crossings plan)))))
 
-  pub returning-back : m < length plan → eqb g 0 and enters x.from y ≡ true → is_of x.carrier y ≡ true
+  pub returning-back : m < length plan → g ≡ 0 → y.to ≡ x.from → y.carrier ≡ x.carrier
       → last_from x (crossings plan) gone m (m + 1) ≡ last_from x (crossings plan) gone last m
-  returning-back l t i =
+  returning-back l z t i =
       rw (add-one m)
       (sym (ap (name_at last m)
-      (here l ∙ place-back x.carrier x.from g (drop (suc m) gone) y (drop (suc m) (crossings plan)) (eqb-true _ _ (and_left _ _ t)) (and_right _ _ t) i)
+      (here l ∙ place-back x.carrier x.from g (drop (suc m) gone) y (drop (suc m) (crossings plan)) z (eq-eqb _ _ t) (eq-eqb _ _ i))
       ∙ name_back last m (last_place x.carrier x.from (drop (suc m) gone) (drop (suc m) (crossings plan)))))
 
-  pub returning-barred : m < length plan → eqb g 0 and enters x.from y ≡ true → is_of x.carrier y ≡ false
+  pub returning-barred : m < length plan → g ≡ 0 → y.to ≡ x.from → (y.carrier ≡ x.carrier → ⊥)
       → last ≡ last_from x (crossings plan) gone last m
-  returning-barred l t i =
+  returning-barred l z t n =
       sym (ap (name_at last m)
-      (here l ∙ place-barred x.carrier x.from g (drop (suc m) gone) y (drop (suc m) (crossings plan)) (eqb-true _ _ (and_left _ _ t)) (and_right _ _ t) i))
+      (here l ∙ place-barred x.carrier x.from g (drop (suc m) gone) y (drop (suc m) (crossings plan)) z (eq-eqb _ _ t) (ne_eqb _ _ n)))
 
   pub returning-end : length plan ≤ m → last ≡ last_from x (crossings plan) gone last m
   returning-end h =
@@ -83,7 +73,7 @@ pub returning-over : (plan gone : List ℕ) → length gone ≡ length plan → 
 returning-over plan gone same x last key zero m r at h is p = let z : r ≡ m = omega arith in ap (last_from x (crossings plan) gone last) z
 returning-over plan gone same x last key (suc d) m r at h is p =
     returning-over plan gone same x last key d (m + 1) r (omega arith) h is (λ k l. p k (omega arith))
-    ∙ returning-past plan gone same x last m (omega arith) (passed-fails _ _ _ (λ e. p m (omega arith) (omega arith) (e ∙ sym is)))
+    ∙ returning-past plan gone same x last m (omega arith) (λ z e. let one = p m (omega arith) (omega arith) (e ∙ sym is) in omega (arith, one, z))
 
 -- a last return at the leaving itself is none
 pub no_return : (xs : List Crossing) (gone : List ℕ) (i : ℕ) → i ≡ last_from (named xs i) xs gone i (suc i) → NoTrip gone xs i

@@ -1,42 +1,22 @@
 // The last return of a there-and-back trip. The search goes by links, past the crossings that do not enter the bay.
 #![tactic(auto)]
 
-ghost use Rattle.std.specs.Prelude.{◌≡◌, suc, ◌<◌, eqb, length, get_or, if◌then◌else◌};
-ghost use Rattle.paper.specs.Basics.{◌and◌};
+ghost use Rattle.std.specs.Prelude.{◌≡◌, suc, ◌<◌, length};
 ghost use Rattle.paper.specs.Yard.{crossings, named};
-ghost use Rattle.trips.specs.Trips.{enters, is_of};
+ghost use Rattle.trips.specs.Trips.{is_of};
 ghost use Rattle.chains.specs.Links.{Linked};
 ghost use Rattle.chains.specs.Asking.{SearchAsks};
 ghost use Rattle.returning.specs.Returns.{last_from};
 
-use docket::{Bay, Carrier};
-
-// The crossing is still in the plan and leads to the bay.
-fn enters_bay(plan: &[u64], gone: &[u8], name: usize, bay: Bay) -> bool
-    requires { (name < length plan.now) × (length gone.now ≡ length plan.now) }
-    ensures { result ≡ eqb (get_or gone.now name 0) 0 and enters bay.0 (named (crossings plan.now) name) }
-{
-    if gone[name] != 0 {
-        return false;
-    }
-    let x = plans::crossing_at(plan, name);
-    x.to.0 == bay.0
-}
+use chains::Link;
+use docket::Carrier;
 
 // The crossing is the carrier's.
 pub fn is_of(plan: &[u64], name: usize, carrier: Carrier) -> bool
     requires { name < length plan.now }
     ensures { result ≡ is_of carrier.0 (named (crossings plan.now) name) }
 {
-    let x = plans::crossing_at(plan, name);
-    x.carrier.0 == carrier.0
-}
-
-// One of two names.
-fn chosen(test: bool, name: usize, other: usize) -> usize
-    ensures { result ≡ if test then name else other }
-{
-    if test { name } else { other }
+    plans::crossing_at(plan, name).carrier.0 == carrier.0
 }
 
 // The name of the last return of the carrier that crosses at `name`, or `name` itself where it does not return.
@@ -48,15 +28,16 @@ pub fn last_return(plan: &[u64], gone: &[u8], links: &mut [u16], name: usize) ->
 {
     let x = plans::crossing_at(plan, name);
     let mut last = name;
-    let mut m = chains::ahead(plan, gone, links, name, 0, 1);
+    let mut m = chains::ahead(plan, gone, links, name, Link::EntersFrom, Link::EntersTo);
     while m < plan.len() {
-        if enters_bay(plan, gone, m, x.from) {
-            if !is_of(plan, m, x.carrier) {
+        let y = plans::crossing_at(plan, m);
+        if gone[m] == 0 && y.to.0 == x.from.0 {
+            if y.carrier.0 != x.carrier.0 {
                 return last;
             }
-            last = chosen(last < m, m, last);
+            last = m;
         }
-        m = chains::ahead(plan, gone, links, m, 1, 1);
+        m = chains::ahead(plan, gone, links, m, Link::EntersTo, Link::EntersTo);
     }
     last
 }

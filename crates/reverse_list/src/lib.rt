@@ -6,20 +6,17 @@ ghost use Rattle.paper.specs.Yard.{pack as packed, turned as turned_of, unpack a
 ghost use Rattle.reversing.specs.Reversing.{reversed};
 ghost use Rattle.reversing.specs.Statement.{ReverseSays};
 
-use docket::{Crossing, Refusal, Verdict};
+use docket::{Crossing, Refusal};
 
 // The number of the crossing with from and to exchanged. The carrier stays, whatever its number.
 fn turned(number: u64) -> u64
     ensures { result ≡ packed (turned_of (unpacked number)) }
 {
     let x = docket::unpack(number);
-    let carrier = x.carrier;
-    let from = x.from;
-    let to = x.to;
     docket::pack(Crossing {
-        carrier: carrier,
-        from: to,
-        to: from,
+        carrier: x.carrier,
+        from: x.to,
+        to: x.from,
     })
 }
 
@@ -28,24 +25,21 @@ fn write(list: &[u64], out: &mut [u64])
     requires { length list.now ≤ length out.old }
     ensures { out.new ≡ reversed list.now ++ drop (length list.now) out.old }
 {
-    let mut i = 0;
-    while i < list.len() {
-        let mirrored = list.len() - 1 - i;
-        out[i] = turned(list[mirrored]);
-        i += 1;
+    for i in 0..list.len() {
+        out[i] = turned(list[list.len() - 1 - i]);
     }
 }
 
 // The reverse of a list of any content, to the first places of `out`: its length, or 1, or 8 with the length that is needed.
-pub fn reverse(list: &[u64], out: &mut [u64]) -> Verdict
+pub fn reverse(list: &[u64], out: &mut [u64]) -> Result<u64, Refusal>
     ensures { ReverseSays list.now out.old result out.new }
 {
     if list.len() > paper::CROSSINGS {
-        return Verdict::Denied(Refusal::Size);
+        return Err(Refusal::Size);
     }
     if out.len() < list.len() {
-        return Verdict::Denied(Refusal::Room(list.len() as u64));
+        return Err(Refusal::Room(list.len() as u64));
     }
     write(list, out);
-    Verdict::Granted(list.len() as u64)
+    Ok(list.len() as u64)
 }

@@ -2,7 +2,7 @@
 -- Assumes nothing.
 use Rattle.std.specs.Prelude.{◌≡◌, List, ℕ, length}
 use Rattle.docket.specs.Reading.{verdict_of}
-use Rattle.docket.specs.declared.Verdict.{Verdict}
+use Rattle.docket.specs.Verdict.{Verdict}
 use Rattle.reversing.specs.Reversing.{reversing, reversing_end}
 
 pub record ReverseSays (list out : List ℕ) (answer : Verdict) (out' : List ℕ) : Type 0 where

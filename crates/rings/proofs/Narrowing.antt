@@ -25,7 +25,7 @@ use Rattle.yard.specs.Table.{Table}
 use Rattle.choice.specs.Taking.{Taken}
 use Rattle.rings.specs.Search.{around, Shown, ring_on, Searched}
 use Rattle.rings.specs.Ways.{Ended, on_path, Narrowed, Outside, path_out, KeptBeside, WayFound, end_of, way_length}
-use Rattle.rings.specs.declared.Way.{Way}
+use Rattle.rings.specs.Way.{Way}
 use Rattle.rings.proofs.Searching.{ring-first, ring-inside, in-yard}
 use Rattle.rings.proofs.Reading.{nearest-at, Read, read_none, read_next, read_more, lowest-next}
 use Rattle.rings.proofs.Between.{between-end, between-inside, between-beside, further, start-far, shortest-far}

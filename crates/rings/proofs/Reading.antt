@@ -1,6 +1,7 @@
 -- What is taken of the wanted bays in the first ring that has one is the nearest; and the lowest neighbour in the ring one nearer is the
 -- path's next bay. Both are the paper's.
 -- Assumes nothing.
+use Rattle.std.proofs.Common.{None, Some}
 use mathlib.Core.Path.{◌≡◌, refl, sym, ap, ◌∙◌}
 use mathlib.Core.Bool.{Bool, true, false}
 use mathlib.Core.List.{List, [], ◌++◌, append_assoc}
@@ -31,8 +32,6 @@ use Rattle.docket.specs.declared.Bay.{Bay as Held}
 use Rattle.rings.specs.declared.Near.{Near}
 use Rattle.rings.specs.declared.Near.TheVariants.{Found, Nowhere, Farther}
 use Rattle.rings.specs.Ways.{Inside, path_in, PathFound, WayFound, PathNear, WayNear, Ends, path_by, way_by}
-use Rattle.rings.specs.declared.Path.TheVariants.{First, NoPath}
-use Rattle.rings.specs.declared.Way.TheVariants.{To, NoWay}
 use Rattle.rings.proofs.Searching.{ring-inside, in-yard}
 
 -- ## The nearest
@@ -188,7 +187,7 @@ module _ {n : ℕ} {table held : List ℕ} (s : Shown n table held) (most : n �
       start = sym (f.rowing d u (omega arith) (omega arith)) ∙ sym k;
     }
 
-    pub path-first : (k : true ≡ mem_row rows d u) (room : List ℕ) → take (d + 1) room ≡ path_in (inside k) → PathFound s u v room (First (d + 1))
+    pub path-first : (k : true ≡ mem_row rows d u) (room : List ℕ) → take (d + 1) room ≡ path_in (inside k) → PathFound s u v room (Some (d + 1))
     unfolding path_between shortest_path
     path-first k room e =
         let Y = s.yard in
@@ -196,7 +195,7 @@ module _ {n : ℕ} {table held : List ℕ} (s : Shown n table held) (most : n �
         let same : ring_of Y u (rings Y s.bays v) ≡ d = (search-finds s v most hv wanted rows u d w f (λ o. not-both (inside k).start o) i).1 in
         record { fits = omega (arith, f.far); same = rw (i, same) (ap some e) }
 
-    pub path-none : (room : List ℕ) → false ≡ mem_row rows d u → GoesOn n rows d → PathFound s u v room NoPath
+    pub path-none : (room : List ℕ) → false ≡ mem_row rows d u → GoesOn n rows d → PathFound s u v room None
     unfolding path_between
     path-none room k goes =
         let Y = s.yard in
@@ -208,7 +207,7 @@ module _ {n : ℕ} {table held : List ℕ} (s : Shown n table held) (most : n �
 -- ## The way to the nearest
 
 module _ {n : ℕ} {table held : List ℕ} (s : Shown n table held) (x : Bay) (q : Bay → Bool) where
-  pub way-none : (room : List ℕ) → none ≡ nearest_of s.yard q s.bays x → WayFound s x q room NoWay
+  pub way-none : (room : List ℕ) → none ≡ nearest_of s.yard q s.bays x → WayFound s x q room None
   way-none room h = record { nearest = h; fits = omega arith; path = λ e k. never-some e k }
 
 -- ## What few rows find
@@ -220,16 +219,16 @@ pub ends-farther : {n d : ℕ} {rows : List ℕ} → length rows < n * words →
 ends-farther h = record { never_found = λ e m k. never (cc); nowhere = λ k. never (cc); few = λ k. h }
 
 module _ {n : ℕ} {table held : List ℕ} (s : Shown n table held) where
-  pub path-ended : {u v : Bay} {rows rows' room : List ℕ} {d : ℕ} {r : Near} → Ends n rows' d r → length rows' ≡ length rows → (GoesOn n rows' d → PathFound s u v room NoPath) → PathNear s u v rows room r
+  pub path-ended : {u v : Bay} {rows rows' room : List ℕ} {d : ℕ} {r : Near} → Ends n rows' d r → length rows' ≡ length rows → (GoesOn n rows' d → PathFound s u v room None) → PathNear s u v rows room r
   path-ended z l f = record { found = λ e m k. absurd (z.never_found e m k); nowhere = λ k. f (z.nowhere k); few = λ k. omega (arith, z.few k, l) }
 
-  pub way-ended : {x : Bay} {q : Bay → Bool} {rows rows' room : List ℕ} {d : ℕ} {r : Near} → Ends n rows' d r → length rows' ≡ length rows → (GoesOn n rows' d → WayFound s x q room NoWay) → WayNear s x q rows room r
+  pub way-ended : {x : Bay} {q : Bay → Bool} {rows rows' room : List ℕ} {d : ℕ} {r : Near} → Ends n rows' d r → length rows' ≡ length rows → (GoesOn n rows' d → WayFound s x q room None) → WayNear s x q rows room r
   way-ended z l f = record { found = λ e m k. absurd (z.never_found e m k); nowhere = λ k. f (z.nowhere k); few = λ k. omega (arith, z.few k, l) }
 
-  pub path-near : {u v : Bay} {rows room : List ℕ} {e : Held} {m : ℕ} → PathFound s u v room (First m) → PathNear s u v rows room (Found e m)
+  pub path-near : {u v : Bay} {rows room : List ℕ} {e : Held} {m : ℕ} → PathFound s u v room (Some m) → PathNear s u v rows room (Found e m)
   path-near {m = m} f = record { found = λ e m' k. (let z : m ≡ m' = cc in rw z at f); nowhere = λ k. never (cc); few = λ k. never (cc) }
 
-  pub way-near : {x : Bay} {q : Bay → Bool} {rows room : List ℕ} {e : Held} {m : ℕ} → WayFound s x q room (To e m) → WayNear s x q rows room (Found e m)
+  pub way-near : {x : Bay} {q : Bay → Bool} {rows room : List ℕ} {e : Held} {m : ℕ} → WayFound s x q room (Some (e, m)) → WayNear s x q rows room (Found e m)
   way-near {e = e} {m = m} f = record { found = λ e' m' k. (let y : e ≡ e' = cc in let z : m ≡ m' = cc in rw (y, z) at f); nowhere = λ k. never (cc); few = λ k. never (cc) }
 
   by_near : {P : Type 0} (r : Near) → ((e : Held) (m : ℕ) → r ≡ Found e m → P) → (r ≡ Nowhere → P) → (r ≡ Farther → P) → P

@@ -285,6 +285,14 @@ module _ {n : ℕ} {table held : List ℕ} (s : Shown n table held) (x : Bay) wh
   searched-short wanted d seen ring rows g h k m =
       searched wanted d seen ring rows g m (λ o f i j. absurd (⊎_elim (λ l. omega arith) (λ l. omega arith) o))
 
+  -- it was the last ring, or the last one with a row
+  pub searched-last : (wanted : List ℕ) (d : ℕ) (seen ring rows : List ℕ) → Searching wanted d seen ring rows
+      → (d + 1) * words ≤ length rows → (d + 1 < n → length rows < (d + 2) * words) → Searched s x wanted rows d
+  searched-last wanted d seen ring rows g m k = elim (dec_lt (d + 1) n) [
+    | yes h ↦ searched-short wanted d seen ring rows g h (k h) m
+    | no h ↦ searched-all wanted d seen ring rows g (omega arith) m
+  ]
+
 -- ## Any set is held
 
 members-mem : (ws : List ℕ) (b : ℕ) → b < 64 * length ws → mem ws b ≡ elem b (members ws)

@@ -1,6 +1,6 @@
 -- What is read from the rows of a search: the nearest bay of a set, and the shortest path.
 -- Assumes nothing.
-use Rattle.std.specs.Prelude.{◌≡◌, Bool, true, false, List, ℕ, ◌+◌, ◌-◌, ◌*◌, ◌≤◌, ◌<◌, length, take}
+use Rattle.std.specs.Prelude.{◌≡◌, Bool, true, false, List, ℕ, ◌+◌, ◌-◌, ◌*◌, ◌≤◌, ◌<◌, length, take, None, Some}
 use Rattle.std.proofs.Math.Option.{Option, none, some}
 use Rattle.paper.specs.Basics.{◌and◌, elem, In, Out}
 use Rattle.paper.specs.Yard.{Bay, Yard}
@@ -8,45 +8,46 @@ use Rattle.paper.specs.Path.{rings, nearest_of, inward, shortest_path, path_betw
 use Rattle.words.specs.Sets.{mem, mem_row, words, span, Kept, any_below, reaches}
 use Rattle.yard.specs.Table.{Table}
 use Rattle.rings.specs.Search.{Shown, Lent, around, GoesOn}
-use Rattle.rings.specs.declared.Path.{Path}
-use Rattle.rings.specs.declared.Path.TheVariants.{First, NoPath}
+use Rattle.rings.specs.Path.{Path}
 use Rattle.docket.specs.declared.Bay.{Bay as Held}
 use Rattle.rings.specs.declared.Near.{Near}
 use Rattle.rings.specs.declared.Near.TheVariants.{Found, Nowhere, Farther}
-use Rattle.rings.specs.declared.Way.{Way}
-use Rattle.rings.specs.declared.Way.TheVariants.{To, NoWay}
+use Rattle.rings.specs.Way.{Way}
 
 -- ## How the answers read
 
 -- the first bays of the lent room are the path
 abbrev pub path_of : Path → List ℕ → Option (List Bay)
-path_of NoPath room = none
-path_of (First m) room = some (take m room)
+path_of None room = none
+path_of (Some m) room = some (take m room)
 
 -- how many bays it has
 abbrev pub path_length : Path → ℕ
-path_length NoPath = 0
-path_length (First m) = m
+path_length None = 0
+path_length (Some m) = m
 
 -- the nearest bay, to which the way leads, and how many bays it has
 abbrev pub end_of : Way → Option Bay
-end_of NoWay = none
-end_of (To e m) = some e.0
+end_of None = none
+end_of (Some (e, m)) = some e.0
 
 abbrev pub way_length : Way → ℕ
-way_length NoWay = 0
-way_length (To e m) = m
+way_length None = 0
+way_length (Some (e, m)) = m
 
 -- what was found, where the rows reached
-abbrev pub path_by : Near → Path
-path_by (Found e m) = First m
-path_by Nowhere = NoPath
-path_by Farther = NoPath
-
 abbrev pub way_by : Near → Way
-way_by (Found e m) = To e m
-way_by Nowhere = NoWay
-way_by Farther = NoWay
+way_by (Found e m) = Some (e, m)
+way_by Nowhere = None
+way_by Farther = None
+
+-- the path that the way is
+abbrev pub path_along : Way → Path
+path_along (Some (e, m)) = Some m
+path_along None = None
+
+abbrev pub path_by : Near → Path
+path_by near = path_along (way_by near)
 
 -- a search that ended at row d with nothing found
 pub record Ends (n : ℕ) (rows : List ℕ) (d : ℕ) (r : Near) : Type 0 where
@@ -164,13 +165,13 @@ module _ {n : ℕ} {table held : List ℕ} (s : Shown n table held) where
 
   -- the same of what is sought in few rows: where they do not reach, they are fewer than the bays
   pub record PathNear (u v : Bay) (rows room : List ℕ) (r : Near) : Type 0 where
-    pub found : (e : Held) (m : ℕ) → r ≡ Found e m → PathFound u v room (First m)
-    pub nowhere : r ≡ Nowhere → PathFound u v room NoPath
+    pub found : (e : Held) (m : ℕ) → r ≡ Found e m → PathFound u v room (Some m)
+    pub nowhere : r ≡ Nowhere → PathFound u v room None
     pub few : r ≡ Farther → length rows < n * words
 
   pub record WayNear (x : Bay) (q : Bay → Bool) (rows room : List ℕ) (r : Near) : Type 0 where
-    pub found : (e : Held) (m : ℕ) → r ≡ Found e m → WayFound x q room (To e m)
-    pub nowhere : r ≡ Nowhere → WayFound x q room NoWay
+    pub found : (e : Held) (m : ℕ) → r ≡ Found e m → WayFound x q room (Some (e, m))
+    pub nowhere : r ≡ Nowhere → WayFound x q room None
     pub few : r ≡ Farther → length rows < n * words
 
 -- ## What is asked, what is said

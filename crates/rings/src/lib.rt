@@ -8,7 +8,7 @@ ghost use Rattle.words.specs.Sets.{mem, mem_row, words, span};
 ghost use Rattle.rings.specs.Search.{NextRingAsks, NextRingSays, SearchAsks, SearchSays};
 ghost use Rattle.rings.specs.Widening.{Widened};
 ghost use Rattle.rings.specs.Ways.{InwardAsks, InwardSays, NarrowAsks, NarrowSays, OutwardAsks, OutwardSays, KeepBesideAsks, KeptBeside};
-ghost use Rattle.rings.specs.Ways.{Ends, path_by, way_by, PathNearAsks, PathNearSays, PathAsks, PathSays, WayNearAsks, WayNearSays, WayAsks, WaySays};
+ghost use Rattle.rings.specs.Ways.{Ends, path_along, way_by, PathNearAsks, PathNearSays, PathAsks, PathSays, WayNearAsks, WayNearSays, WayAsks, WaySays};
 
 use docket::Bay;
 
@@ -17,20 +17,6 @@ const NEAR: usize = 32 * words::WORDS;
 
 // Words of rows for any search.
 const ALL: usize = words::SPAN * words::WORDS;
-
-// So many first bays of the lent room are the path, if there is one.
-#[derive(Clone, Copy)]
-pub enum Path {
-    First(usize),
-    NoPath,
-}
-
-// The bay to which the way leads, and the number of its bays, if there is one.
-#[derive(Clone, Copy)]
-pub enum Way {
-    To(Bay, usize),
-    NoWay,
-}
 
 // What a search in few rows finds: the bay to which a path leads and the number of its bays; that there is none; or that the rows
 // don't reach so far.
@@ -69,23 +55,14 @@ fn search(table: &[u64], n: usize, held: &[u64], x: Bay, wanted: &[u64], rows: &
     words::join(&mut seen, middle);
     words::alone(&mut ring, middle);
     words::keep(rows, 0, &ring);
-    let mut d = 0;
-    loop {
-        if words::meets(&ring, 0, wanted, 0) {
-            return d;
-        }
-        if words::is_empty(&ring) {
-            return d;
-        }
-        if n <= d + 1 {
-            return d;
-        }
-        if rows.len() < (d + 2) * words::WORDS {
+    let last = n.min(rows.len() / words::WORDS) - 1;
+    for d in 0..last {
+        if words::meets(&ring, 0, wanted, 0) || words::is_empty(&ring) {
             return d;
         }
         next_ring(table, n, d, &mut seen, &mut ring, rows);
-        d += 1;
     }
+    last
 }
 
 // The path from x, d rails from the bay in the middle of the rows: each next bay is the lowest neighbour in the ring one nearer.
@@ -94,13 +71,11 @@ fn inward(table: &[u64], n: usize, rows: &[u64], d: usize, x: Bay, path: &mut [u
     ensures { InwardSays n table.now rows.now d x.0 path.new }
 {
     let mut u = x.0 as usize;
-    let mut i = 0;
-    while i < d {
+    for i in 0..d {
         path[i] = u as u16;
         u = words::lowest_common(table, u, rows, d - 1 - i);
-        i += 1;
     }
-    path[i] = u as u16;
+    path[d] = u as u16;
 }
 
 // Only the bays of row i stay in the set.
@@ -108,10 +83,8 @@ fn meet_row(set: &mut [u64], rows: &[u64], i: usize)
     requires { (length set.old ≡ words) × (i * words + words ≤ length rows.now) }
     ensures { (b : ℕ) → b < span → mem set.new b ≡ mem set.old b and mem_row rows.now i b }
 {
-    let mut k = 0;
-    while k < words::WORDS {
-        set[k] = set[k] & rows[i * words::WORDS + k];
-        k += 1;
+    for k in 0..words::WORDS {
+        set[k] &= rows[i * words::WORDS + k];
     }
 }
 
@@ -136,9 +109,7 @@ fn narrow(table: &[u64], n: usize, rows: &mut [u64], d: usize, e: Bay)
     let mut kept = [0u64; words::WORDS];
     words::alone(&mut kept, last);
     words::keep(rows, d, &kept);
-    let mut i = d;
-    while 1 < i {
-        i -= 1;
+    for i in (1..d).rev() {
         keep_beside(table, i, rows, &mut kept);
     }
 }
@@ -149,13 +120,11 @@ fn outward(table: &[u64], n: usize, rows: &[u64], d: usize, x: Bay, path: &mut [
     ensures { OutwardSays n table.now rows.now d x.0 path.new }
 {
     let mut u = x.0 as usize;
-    let mut i = 0;
-    while i < d {
+    for i in 0..d {
         path[i] = u as u16;
-        i += 1;
-        u = words::lowest_common(table, u, rows, i);
+        u = words::lowest_common(table, u, rows, i + 1);
     }
-    path[i] = u as u16;
+    path[d] = u as u16;
 }
 
 // The shortest path from u to v through bays not held, if the rows reach so far.
@@ -196,41 +165,42 @@ fn ended(n: usize, rows: &[u64], d: usize) -> Near
     Near::Nowhere
 }
 
-fn path_of(near: Near) -> Path
-    ensures { result ≡ path_by near }
-{
-    match near {
-        Near::Found(_, m) => Path::First(m),
-        Near::Nowhere => Path::NoPath,
-        Near::Farther => Path::NoPath,
-    }
-}
-
-fn way_of(near: Near) -> Way
+fn way_of(near: Near) -> Option<(Bay, usize)>
     ensures { result ≡ way_by near }
 {
     match near {
-        Near::Found(e, m) => Way::To(e, m),
-        Near::Nowhere => Way::NoWay,
-        Near::Farther => Way::NoWay,
+        Near::Found(e, m) => Some((e, m)),
+        Near::Nowhere | Near::Farther => None,
+    }
+}
+
+// The path that the way is, wherever it leads.
+pub fn path_along(way: Option<(Bay, usize)>) -> Option<usize>
+    ensures { result ≡ path_along way }
+{
+    match way {
+        Some((_, m)) => Some(m),
+        None => None,
     }
 }
 
 // The shortest path from u to v through bays not held. Few rows do mostly, and are soon cleared; where they don't, all are taken.
-pub fn path_between(table: &[u64], n: usize, held: &[u64], u: Bay, v: Bay, path: &mut [u16]) -> Path
+pub fn path_between(
+    table: &[u64],
+    n: usize,
+    held: &[u64],
+    u: Bay,
+    v: Bay,
+    path: &mut [u16],
+) -> Option<usize>
     requires { PathAsks n table.now held.now path.old u.0 v.0 }
     ensures { PathSays n table.now held.now u.0 v.0 path.new result }
 {
-    let mut rows = [0u64; NEAR];
-    let near = path_near(table, n, held, u, v, &mut rows, path);
-    match near {
-        Near::Found(_, m) => Path::First(m),
-        Near::Nowhere => Path::NoPath,
-        Near::Farther => {
-            let mut all = [0u64; ALL];
-            path_of(path_near(table, n, held, u, v, &mut all, path))
-        }
+    let mut near = path_near(table, n, held, u, v, &mut [0; NEAR], path);
+    if let Near::Farther = near {
+        near = path_near(table, n, held, u, v, &mut [0; ALL], path);
     }
+    path_along(way_of(near))
 }
 
 // The shortest path from x to the nearest wanted bay, through bays not held, from the one search around x, if the rows reach so far.
@@ -265,20 +235,15 @@ pub fn way_to_nearest(
     x: Bay,
     wanted: &[u64],
     path: &mut [u16],
-) -> Way
+) -> Option<(Bay, usize)>
     requires { WayAsks n table.now held.now wanted.now path.old x.0 }
     ensures { WaySays n table.now held.now wanted.now x.0 path.new result }
 {
-    let mut rows = [0u64; NEAR];
-    let near = way_near(table, n, held, x, wanted, &mut rows, path);
-    match near {
-        Near::Found(e, m) => Way::To(e, m),
-        Near::Nowhere => Way::NoWay,
-        Near::Farther => {
-            let mut all = [0u64; ALL];
-            way_of(way_near(table, n, held, x, wanted, &mut all, path))
-        }
+    let mut near = way_near(table, n, held, x, wanted, &mut [0; NEAR], path);
+    if let Near::Farther = near {
+        near = way_near(table, n, held, x, wanted, &mut [0; ALL], path);
     }
+    way_of(near)
 }
 
 // One ring more, of which no row is kept.

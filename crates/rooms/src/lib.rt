@@ -6,8 +6,9 @@ ghost use Rattle.std.specs.Prelude.{◌≤◌, length};
 ghost use Rattle.outcome.specs.FromBelow.{Admitted};
 ghost use Rattle.outcome.specs.Handing.{HandsOutKept, HandsOutDue};
 
+use docket::Refusal;
 pub use outcome;
-use outcome::{Counted, Handed, play};
+use outcome::{Handed, play};
 use yard::Yard;
 
 // In lent room: 7, 8 or the plan, or a plan that is longer than that room.
@@ -35,11 +36,11 @@ pub fn hand_out_again(
     m: usize,
     parked: usize,
     out: &mut [u64],
-) -> Counted
+) -> Result<(u64, u64), Refusal>
     requires admitted { Admitted yard.bays table.now start.now goal.now }
     requires m_in_bounds { m ≤ length out.old }
     ensures { HandsOutDue yard.bays table.now start.now goal.now m parked out.old result out.new }
 {
-    play::play(table, yard, start, goal, &mut out[..m]);
-    Counted::Accepted(m as u64, parked as u64)
+    let _ = play::play(table, yard, start, goal, &mut out[..m]);
+    Ok((m as u64, parked as u64))
 }

@@ -22,15 +22,7 @@ use Rattle.scenario.specs.Under.{bay_by, Sound, under_of, due_of, Broken, Closes
 use Rattle.scenario.specs.declared.Reading.{Reading}
 
 module _ (W H : ℕ) (bay : ℕ → ℕ → Option Bay) (p : Past) (r : Bool) (is : r ≡ eqb p.index 9 and p.well) where
-  pub carrier-bad : r ≡ false → none ≡ carrier_of W H bay p
-  unfolding carrier_of
-  carrier-bad f = rw (← is, f)
-
   module _ (good : r ≡ true) where
-    pub carrier-wall : none ≡ bay p.sx p.sy → none ≡ carrier_of W H bay p
-    unfolding carrier_of start_and_goal
-    carrier-wall f = rw (← is, good, ← f)
-
     module _ (s : ℕ) (start : some s ≡ bay p.sx p.sy) where
       pub carrier-wall-2 : none ≡ bay p.gx p.gy → none ≡ carrier_of W H bay p
       unfolding carrier_of start_and_goal

@@ -7,23 +7,21 @@ use Prim.Native.Nat.{ℕ, suc, ◌+◌, ◌<◌}
 use native.Mathlib.Omega.{arith}
 use native.Mathlib.Numerals.{add-one}
 use lib.Dec.{eqb}
-use lib.ListN.{length, set, take, get_or, length-append, length-set}
+use lib.ListN.{length, set, take, get_or, length-append}
 use lib.Seq.{sets, take-suc}
-use borrow.Author.Tests.{eq-eqb, ne_eqb, eqb-true}
+use borrow.Author.Tests.{eq-eqb, eqb-true}
 use Rattle.paper.specs.Yard.{Bay}
 use Rattle.paper.specs.Text.{Text, Read, good, bad_line}
-use Rattle.paper.specs.Scenario.{Listed, read_scenario}
+use Rattle.paper.specs.Scenario.{Listed}
 use Rattle.paper.specs.Bytes.{State, failed, going, Under, line_closed, ending, end_after, finish_file, begin_line, in_line, close_line, listed_so_far, unread, scenario_step, scenario_finish}
-use Rattle.paper.proofs.Tests.{by_cases, never, by_read}
+use Rattle.paper.proofs.Tests.{by_cases, never}
 use Rattle.paper.proofs.Stepping.{stepped}
 use Rattle.stores.specs.Writing.{Wrote}
 use Rattle.stores.proofs.Stores.{wrote_one}
 use Rattle.gridmap.specs.declared.Grid.{Grid}
 use Rattle.carrier_lists.specs.Counting.{kept}
 use Rattle.scenario.specs.declared.Reading.{Reading}
-use Rattle.scenario.specs.declared.ScenarioRead.{ScenarioRead}
-use Rattle.scenario.specs.declared.ScenarioRead.TheVariants as answer
-use Rattle.scenario.specs.Under.{bay_by, Sound, line_no, state_of, carriers_after, due_of, read_of, answer_of, answer_by, count_read, Stored, FeedsOn, EndsOn, Ended, Reads, starts_after, goals_after, Closes, Steps, Released, Finishes}
+use Rattle.scenario.specs.Under.{bay_by, Sound, line_no, state_of, carriers_after, due_of, read_of, answer_by, count_read, Stored, FeedsOn, EndsOn, Ended, Closes, Steps, Released, Finishes}
 
 module _ (W H : ℕ) (bay : ℕ → ℕ → Option Bay) where
   -- what a state without a line under way gives
@@ -81,15 +79,6 @@ module _ (t : List ℕ) (G : Grid) (s : Reading) where
 
 -- ## The answer
 module _ (s : Reading) where
-  pub answer-version : s.version ≡ true → bad_line 1 ≡ answer_by s
-  answer-version e = rw e
-
-  pub answer-failed : s.version ≡ false → s.failed ≡ true → bad_line (s.count + 2) ≡ answer_by s
-  answer-failed e f = rw (e, f)
-
-  pub answer-good : s.version ≡ false → s.failed ≡ false → good s.count ≡ answer_by s
-  answer-good e f = rw (e, f)
-
   -- what the file gives, with the carriers counted
   pub answer-is : (cs : List (Bay × Bay)) → length cs ≡ s.count → answer_by s ≡ count_read (read_of s cs)
   answer-is cs l =
@@ -129,8 +118,6 @@ module _ (s r : Reading) where
   }
 
 -- ## The bytes so far
-pub feeds-none : (t : List ℕ) (G : Grid) (s : Reading) (b b' : List ℕ) → FeedsOn t G s [] s b b b' b'
-feeds-none t G s b b' = record { feeds = λ o cs a a' w. record { carriers = cs; stored = w; sound = o; state = refl } }
 
 pub feeds-next : (t : List ℕ) (G : Grid) (s₀ : Reading) (file : Text) (i : ℕ) (s r : Reading) {a b c a' b' d : List ℕ} → i < length file
     → FeedsOn t G s₀ (take i file) s a b a' b' → (Sound s → Steps t G s (get_or file i 0) r) → c ≡ kept s.count r.count r.start b → d ≡ kept s.count r.count r.goal b' → FeedsOn t G s₀ (take (i + 1) file) r a c a' d
@@ -177,14 +164,6 @@ came-all t G file s₀ s r {a} {b} {c} {a'} {b'} {d} e w f =
     }
 
 -- ## The whole file
-pub ended-answer : (file : Text) (G : Grid) (t : List ℕ) (r : Reading) {a b a' b' : List ℕ} → Ended file G t r a b a' b' → answer_by r ≡ count_read (read_scenario G.width G.height (bay_by t G) file)
-ended-answer file G t r w = answer-is r w.carriers w.stored.count ∙ ap count_read w.reads
-
-pub reads-bad : (file : Text) (G : Grid) (t : List ℕ) (n : ℕ) (a b : List ℕ) → bad_line n ≡ count_read (read_scenario G.width G.height (bay_by t G) file) → Reads file G t (answer.Bad n) a a b b
-reads-bad file G t n a b e =
-    by_read (read_scenario G.width G.height (bay_by t G) file)
-    (λ cs q. let y : bad_line n ≡ good (length cs) = rw q at e in never (cc))
-    (λ m q. record { answer = e; starts_left = rw q refl; goals_left = rw q refl })
 
 pub read-good : (r : Reading) (cs : List (Bay × Bay)) (k : ℕ) → good k ≡ count_read (read_of r cs) → read_of r cs ≡ good cs
 read-good r cs k e =
@@ -193,12 +172,3 @@ read-good r cs k e =
     (λ f. by_cases r.version
     (λ g. let y : good k ≡ bad_line 1 = rw (f, g) at e in never (cc))
     (λ g. rw (f, g)))
-
-pub reads-good : (file : Text) (G : Grid) (t : List ℕ) (k : ℕ) → good k ≡ count_read (read_scenario G.width G.height (bay_by t G) file) → (r : Reading) {a b a' b' : List ℕ} → Ended file G t r a b a' b' → (x : ScenarioRead) → answer_of x ≡ answer_by r → Reads file G t x a b a' b'
-reads-good file G t k e r w x f =
-    let q : read_scenario G.width G.height (bay_by t G) file ≡ good w.carriers = sym w.reads ∙ read-good r w.carriers k (e ∙ ap count_read (sym w.reads)) in
-    record {
-      answer = f ∙ ended-answer file G t r w;
-      starts_left = w.stored.starts_wrote.left ∙ sym (ap (starts_after _) q);
-      goals_left = w.stored.goals_wrote.left ∙ sym (ap (goals_after _) q);
-    }

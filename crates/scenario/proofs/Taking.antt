@@ -1,6 +1,5 @@
 -- Every state stands for a sound one, and a sound one for itself. So what is promised from sound states on is promised from any.
 use mathlib.Core.Path.{◌≡◌, ap, subst, sym}
-use mathlib.Core.Bool.{true, false}
 use mathlib.Core.List.{List}
 use Prim.Native.Nat.{ℕ}
 use Rattle.paper.specs.Yard.{Bay}
@@ -10,7 +9,7 @@ use Rattle.gridmap.specs.declared.Grid.{Grid}
 use Rattle.carrier_lists.specs.Counting.{count_in}
 use Rattle.carrier_lists.proofs.Counting.{count-few, count_same}
 use Rattle.scenario.specs.declared.Reading.{Reading}
-use Rattle.scenario.specs.Under.{Sound, taken_as, state_of, Stored, Came, Over, FeedsOn, EndsOn, Feeds, Ends}
+use Rattle.scenario.specs.Under.{Sound, taken_as, state_of, Stored, Came, Over, Feeds, Ends}
 
 -- ## The state
 
@@ -42,16 +41,6 @@ taken-same s o =
 -- ## From any state on
 
 module _ (t : List ℕ) (G : Grid) (s : Reading) where
-  pub feeds-any : (u r : Reading) (bs : Text) {a b a' b' : List ℕ} → u ≡ taken_as s → FeedsOn t G u bs r a b a' b' → Feeds t G s bs r a b a' b'
-  feeds-any u r bs {a} {b} {a'} {b'} e w =
-      let v = subst (λ (z : Reading). FeedsOn t G z bs r a b a' b') e w in
-      record { feeds = λ cs x y q. v.feeds (taken-sound s) cs x y q }
-
-  pub ends-any : (u r : Reading) {a b a' b' : List ℕ} → u ≡ taken_as s → EndsOn t G u r a b a' b' → Ends t G s r a b a' b'
-  ends-any u r {a} {b} {a'} {b'} e w =
-      let v = subst (λ (z : Reading). EndsOn t G z r a b a' b') e w in
-      record { ends = λ cs x y q. v.ends (taken-sound s) cs x y q }
-
   -- and from a sound one
   pub feeds-sound : Sound s → (r : Reading) (bs : Text) {a b a' b' : List ℕ} → Feeds t G s bs r a b a' b'
       → (cs : List (Bay × Bay)) (x y : List ℕ) → Stored cs s x a y a' → Came t G (state_of s cs) bs r x b y b'

@@ -1,1 +1,3 @@
 pub mod Under
+pub mod Found
+pub mod ScenarioRead

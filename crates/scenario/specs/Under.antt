@@ -1,6 +1,6 @@
 -- How the code's state reads as the state of the scenario's step, and what each function makes of it.
 -- Assumes nothing.
-use Rattle.std.specs.Prelude.{Bool, true, false, ◌≡◌, ℕ, suc, ◌+◌, ◌≤◌, eqb, length, if◌then◌else◌}
+use Rattle.std.specs.Prelude.{Bool, true, false, ◌≡◌, ℕ, suc, ◌+◌, ◌≤◌, eqb, length, if◌then◌else◌, Err, None, Ok, Some}
 use mathlib.Core.List.{List, [], ◌∷◌, ◌++◌, map, foldl}
 use Rattle.std.proofs.Math.Option.{Option, none, some}
 use Rattle.std.proofs.lemmas.List.Edits.{sets}
@@ -15,10 +15,8 @@ use Rattle.fields.specs.ReadAs.{match_of, seen_of, past_of}
 use Rattle.gridmap.specs.Cells.{bay_found}
 use Rattle.gridmap.specs.declared.Grid.{Grid}
 use Rattle.scenario.specs.declared.Reading.{Reading}
-use Rattle.scenario.specs.declared.ScenarioRead.{ScenarioRead}
-use Rattle.scenario.specs.declared.ScenarioRead.TheVariants as answer
-use Rattle.scenario.specs.declared.Found.{Found}
-use Rattle.scenario.specs.declared.Found.TheVariants.{Carrier, Nothing}
+use Rattle.scenario.specs.ScenarioRead.{ScenarioRead}
+use Rattle.scenario.specs.Found.{Found}
 
 -- the bays of a map by its cells' numbers
 abbrev pub bay_by : List ℕ → Grid → ℕ → ℕ → Option Bay
@@ -62,8 +60,8 @@ taken_as s = record {
 }
 
 abbrev pub carrier_is : Found → Option (Bay × Bay)
-carrier_is (Carrier s g) = some (s, g)
-carrier_is Nothing = none
+carrier_is (Some (s, g)) = some (s, g)
+carrier_is None = none
 
 -- the start of a line, so many carriers read before, and the last of them
 abbrev pub due_of : Bool → ℕ → ℕ → ℕ → Reading
@@ -136,8 +134,8 @@ pub record Finishes (table : List ℕ) (G : Grid) (s r : Reading) : Type 0 where
 
 -- the answer with the count of carriers for the carriers
 abbrev pub answer_of : ScenarioRead → Read ℕ
-answer_of (answer.Carriers k) = good k
-answer_of (answer.Bad n) = bad_line n
+answer_of (Ok k) = good k
+answer_of (Err n) = bad_line n
 
 abbrev pub answer_by : Reading → Read ℕ
 answer_by s = if s.version then bad_line 1 else if s.failed then bad_line (s.count + 2) else good s.count

@@ -8,7 +8,7 @@ ghost use Rattle.fields.specs.ReadAs.{past_of};
 ghost use Rattle.scenario.specs.Under.{bay_by, Sound, taken_as, carrier_is, due_of, Broken, Closes, Steps, On, Released, Marked, Finishes, answer_of, answer_by, FeedsOn, EndsOn, Feeds, Ends, Ended, Reads};
 
 use fields::{FieldSeen, FieldsPast, TextSeen};
-use gridmap::{Cell, Grid};
+use gridmap::Grid;
 
 // The scenario under way: whether it broke its layout, whether the version is due, whether the line has begun, whether a CR is held
 // back, how many carriers were read, the last one's start and goal, and what is known of the line.
@@ -26,20 +26,6 @@ pub struct Reading {
     pub field: FieldSeen,
 }
 
-// The start and goal of a carrier's line.
-#[derive(Clone, Copy)]
-pub enum Found {
-    Carrier(u16, u16),
-    Nothing,
-}
-
-// The carriers of a scenario, or its first bad line.
-#[derive(Clone, Copy)]
-pub enum ScenarioRead {
-    Carriers(u16),
-    Bad(u64),
-}
-
 // What a state stands for: a caller may hand in any.
 fn taken(s: Reading) -> Reading
     ensures { result ≡ taken_as s }
@@ -51,21 +37,15 @@ fn taken(s: Reading) -> Reading
 }
 
 // The carrier, once its line has ended.
-fn carrier_of(p: FieldsPast, grid: Grid, cells: &[u16]) -> Found
+fn carrier_of(p: FieldsPast, grid: Grid, cells: &[u16]) -> Option<(u16, u16)>
     ensures { carrier_is result ≡ carrier_of grid.width grid.height (bay_by cells.now grid) (past_of p) }
 {
-    if fields::both(p.index == 9, p.well) {
-        let start = gridmap::bay_in(grid, cells, p.sx, p.sy);
-        let Cell::Bay(s) = start else {
-            return Found::Nothing;
-        };
-        let goal = gridmap::bay_in(grid, cells, p.gx, p.gy);
-        let Cell::Bay(g) = goal else {
-            return Found::Nothing;
-        };
-        return Found::Carrier(s, g);
+    if p.index == 9 && p.well {
+        let start = gridmap::bay_in(grid, cells, p.sx, p.sy)?;
+        let goal = gridmap::bay_in(grid, cells, p.gx, p.gy)?;
+        return Some((start, goal));
     }
-    Found::Nothing
+    None
 }
 
 // A line is due: the version, or the next carrier's.
@@ -133,7 +113,7 @@ fn closed(s: Reading, grid: Grid, cells: &[u16]) -> Reading
     if count < carrier_lists::MOST {
         let past = fields::field_past(s.past, s.field, grid.width as u32, grid.height as u32);
         let found = carrier_of(past, grid, cells);
-        let Found::Carrier(start, goal) = found else {
+        let Some((start, goal)) = found else {
             return broken(s);
         };
         return due(false, count + 1, start, goal);
@@ -201,16 +181,16 @@ fn finished(s: Reading, grid: Grid, cells: &[u16]) -> Reading
 }
 
 // What was read, once the file has ended.
-pub fn answer(s: Reading) -> ScenarioRead
+pub fn answer(s: Reading) -> Result<u16, u64>
     ensures { answer_of result ≡ answer_by s }
 {
     if s.version {
-        return ScenarioRead::Bad(1);
+        return Err(1);
     }
     if s.failed {
-        return ScenarioRead::Bad((s.count as u64) + 2);
+        return Err((s.count as u64) + 2);
     }
-    ScenarioRead::Carriers(s.count)
+    Ok(s.count)
 }
 
 // One byte of the scenario.
@@ -242,12 +222,10 @@ fn feed_on(
     ensures { FeedsOn cells.now grid s bytes.now result starts.old starts.new goals.old goals.new }
 {
     let mut at = s;
-    let mut i = 0;
-    while i < bytes.len() {
-        let r = step(at, bytes[i], grid, cells);
+    for b in bytes {
+        let r = step(at, *b, grid, cells);
         carrier_lists::keep(at.count, r.count, r.start, r.goal, starts, goals);
         at = r;
-        i += 1;
     }
     at
 }
@@ -309,14 +287,11 @@ pub fn read(
     cells: &[u16],
     starts: &mut [u16],
     goals: &mut [u16],
-) -> ScenarioRead
+) -> Result<u16, u64>
     ensures { Reads file.now grid cells.now result starts.old starts.new goals.old goals.new }
 {
     let mut no_start = [0u16; 1];
     let mut no_goal = [0u16; 1];
-    let found = answer(fold(file, grid, cells, &mut no_start, &mut no_goal));
-    match found {
-        ScenarioRead::Carriers(_) => answer(fold(file, grid, cells, starts, goals)),
-        ScenarioRead::Bad(line) => ScenarioRead::Bad(line),
-    }
+    answer(fold(file, grid, cells, &mut no_start, &mut no_goal))?;
+    answer(fold(file, grid, cells, starts, goals))
 }

@@ -1,5 +1,6 @@
 -- Each bay that is entered makes the way that is behind the pair one bay longer: a bring along it, and then one along that bay, is a bring along both.
 -- Assumes nothing.
+use Rattle.std.proofs.Common.{None, Some}
 use mathlib.Core.Path.{◌≡◌, sym, ◌∙◌, ap, refl}
 use mathlib.Core.List.{List, [], ◌∷◌, ◌++◌}
 use mathlib.Core.Option.{none, some}
@@ -17,7 +18,6 @@ use Rattle.moving.specs.Placed.{Placed}
 use Rattle.acting.specs.Acting.{Tries}
 use Rattle.acting.proofs.Acting.{tried-done, tried-failed}
 use Rattle.acting.specs.declared.Tally.{Tally}
-use Rattle.acting.specs.declared.Tried.TheVariants.{Done, Failed}
 use Rattle.bring.specs.Bringing.{brings}
 use Rattle.bring.specs.declared.Couple.{Couple}
 use Rattle.scout.specs.Scouting.{Gone}
@@ -33,7 +33,7 @@ module _ (way : List ℕ) {Y : Yard} {couple : Couple} {n : ℕ} {p p' standing'
   on : brings couple (take (suc i) way) Y p ≡ (bring Y couple.leader.0 couple.follower.0 (get_or way i 0 ∷ []) p' >>= λ b. some (together g.brought b))
   on = rw (longer, g.moved) (bring-on Y couple.leader.0 couple.follower.0 (take i way) (get_or way i 0 ∷ []) p g.brought g.made)
 
-  pub gone-further : {out out' : List ℕ} {at m : Tally} {q standing'' empty'' : List ℕ} → Tries (brings couple (get_or way i 0 ∷ []) Y p') n p' out at q standing'' empty'' out' (Done m)
+  pub gone-further : {out out' : List ℕ} {at m : Tally} {q standing'' empty'' : List ℕ} → Tries (brings couple (get_or way i 0 ∷ []) Y p') n p' out at q standing'' empty'' out' (Some m)
       → Gone Y couple n (take (i + 1) way) p q standing'' empty''
   gone-further t =
       let d = tried-done t in
@@ -44,6 +44,6 @@ module _ (way : List ℕ) {Y : Yard} {couple : Couple} {n : ℕ} {p p' standing'
         placed = d.2.placed;
       })
 
-  pub gone-stops : {out out' : List ℕ} {at : Tally} {q standing'' empty'' : List ℕ} → Tries (brings couple (get_or way i 0 ∷ []) Y p') n p' out at q standing'' empty'' out' Failed
+  pub gone-stops : {out out' : List ℕ} {at : Tally} {q standing'' empty'' : List ℕ} → Tries (brings couple (get_or way i 0 ∷ []) Y p') n p' out at q standing'' empty'' out' None
       → brings couple (take (suc i) way) Y p ≡ none
   gone-stops t = on ∙ rw (tried-failed t)

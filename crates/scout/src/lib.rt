@@ -7,10 +7,8 @@ ghost use Rattle.words.specs.Sets.{words, span};
 ghost use Rattle.acting.specs.Acting.{Ready};
 ghost use Rattle.scout.specs.Scouting.{AdvanceAsks, AdvanceSays, ClearsAsks, TooFew, ShowAsks, ShowSays, SetOutAsks, SetOutSays, LookAsks, LookSays};
 
-use acting::Tried;
 use attempts::Lead;
 use bring::Couple;
-use clear_on::Pair;
 use docket::Bay;
 
 // The numbers that a scout's room holds: the carriers' bays, and then who stands at each bay. The room is lent, so that nobody copies it who only hands
@@ -80,9 +78,8 @@ fn advance(
         placement.new standing.new empty.new result }
 {
     let mut unread = [0u64; 1];
-    let mut i = 0;
-    while i < way.len() {
-        let next = [way[i]];
+    for (i, bay) in way.iter().enumerate() {
+        let next = [*bay];
         let one = bring::bring(
             table,
             &next,
@@ -92,12 +89,11 @@ fn advance(
             empty,
             &mut unread,
         );
-        let Tried::Done(_) = one else {
+        let Some(_) = one else {
             return i;
         };
-        i += 1;
     }
-    i
+    way.len()
 }
 
 // Whether two bays beside the junction can be kept, with the leader there. The placement is used up.
@@ -116,7 +112,7 @@ fn clears(
     let b = Bay(placement[follower]);
     let mut unread = [0u64; 1];
     let cleared = clear_on::clear_two(table, lead, b, placement, standing, empty, &mut unread);
-    let Pair::Both(_, _, _) = cleared else {
+    let Some((_, _, _)) = cleared else {
         return false;
     };
     true

@@ -59,14 +59,7 @@ fn passes(path: &[u16], bays: &[u64]) -> bool
     requires { PassesAsks path.now bays.now }
     ensures { result ≡ true → PassesSays path.now bays.now }
 {
-    let mut i = 0;
-    while i < path.len() {
-        if words::is_in(bays, path[i] as usize) {
-            return true;
-        }
-        i += 1;
-    }
-    false
+    path.iter().any(|bay| words::is_in(bays, *bay as usize))
 }
 
 // The scout, if it stands on the path; otherwise a new one, which sets out at the bay `from`.

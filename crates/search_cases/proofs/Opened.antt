@@ -1,4 +1,5 @@
 -- An open yard has its table, and past 4 and 5 the carriers stand at different bays of it, no more than there are bays.
+use Rattle.std.proofs.Common.{Ok}
 use mathlib.Core.Path.{◌≡◌, sym, ap, ◌∙◌}
 use mathlib.Core.List.{List}
 use mathlib.Core.Option.{none}
@@ -17,14 +18,13 @@ use Rattle.words.specs.Sets.{words, span}
 use Rattle.yard.specs.Table.{Table}
 use Rattle.yard.specs.Opening.{Opens, opened_of}
 use Rattle.yard.specs.declared.Yard.{Yard}
-use Rattle.yard.specs.declared.Opened.{Opened}
-use Rattle.yard.specs.declared.Opened.TheVariants.{Open}
+use Rattle.yard.specs.Opened.{Opened}
 use Rattle.levels.specs.Levels.{Levelled}
 use Rattle.levels.proofs.Levels.{row-take, only-rails}
 use Rattle.rings.specs.Search.{Shown}
 use Rattle.rings.proofs.Searching.{shown-any}
 
-module _ {given : Order} {lent : ℕ} {o : Opened} {table : List ℕ} (w : Opens given lent o table) (y : Yard) (told : o ≡ Open y) where
+module _ {given : Order} {lent : ℕ} {o : Opened} {table : List ℕ} (w : Opens given lent o table) (y : Yard) (told : o ≡ Ok y) where
   pub opened-table : Table (yard_by y.bays given.ends) y.bays table
   opened-table = rw (w.admitted y told).bays (w.admitted y told).rows
 

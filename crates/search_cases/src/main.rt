@@ -11,11 +11,10 @@ ghost use Rattle.rings.specs.Search.{Shown};
 ghost use Rattle.moving.specs.Placed.{Placed};
 
 use docket::Bay;
-use rings::Path;
 use std::io;
 use vacate::Vacated;
 use words::{SPAN, WORDS};
-use yard::{Opened, Yard};
+use yard::Yard;
 
 // Whether a case agreed, and the place after it.
 #[derive(Clone, Copy)]
@@ -24,46 +23,12 @@ struct Outcome {
     next: usize,
 }
 
-// What vacating answered: 0 empty, 1 filled, 2 failed; and how many crossings.
-#[derive(Clone, Copy)]
-struct Code(u64, usize);
-
-fn same16(a: &[u16], b: &[u16]) -> bool {
-    if a.len() != b.len() {
-        return false;
-    }
-    let mut i = 0;
-    while i < a.len() && i < b.len() {
-        if a[i] != b[i] {
-            return false;
-        }
-        i += 1;
-    }
-    true
-}
-
-fn same64(a: &[u64], b: &[u64]) -> bool {
-    if a.len() != b.len() {
-        return false;
-    }
-    let mut i = 0;
-    while i < a.len() && i < b.len() {
-        if a[i] != b[i] {
-            return false;
-        }
-        i += 1;
-    }
-    true
-}
-
 // The listed bays as a set. No case names one over 255.
 fn gather(bays: &[u16], set: &mut [u64])
     requires { length set.old ≡ words }
 {
-    let mut i = 0;
-    while i < bays.len() {
-        words::add(set, bays[i] as usize % SPAN);
-        i += 1;
+    for b in bays {
+        words::add(set, usize::from(*b) % SPAN);
     }
 }
 
@@ -72,36 +37,22 @@ fn path_is(n: usize, table: &[u64; Yard::TABLE], held: &[u64], u: u16, v: u16, w
     requires { (n ≤ span) × (u < n) × (v < n) × (length held.now ≡ words) × Shown n table.now held.now }
 {
     let mut path = [0u16; SPAN];
-    let Path::First(m) = rings::path_between(table, n, held, Bay(u), Bay(v), &mut path) else {
-        return want.len() == 0;
-    };
-    same16(&path[..m], want)
+    match rings::path_between(table, n, held, Bay(u), Bay(v), &mut path) {
+        Some(m) => &path[..m] == want,
+        None => want.is_empty(),
+    }
 }
 
 // Opens the yard first, with nobody in it.
-fn path_agrees(
-    bays: u64,
-    u: u16,
-    v: u16,
-    rails: &[u16],
-    nobody: &[u16],
-    held: &[u64],
-    want: &[u16],
-) -> bool
+fn path_agrees(bays: u64, u: u16, v: u16, rails: &[u16], held: &[u64], want: &[u16]) -> bool
     requires { length held.now ≡ words }
 {
     let mut table = [0u64; Yard::TABLE];
-    let Opened::Open(y) = Yard::open(bays, rails, nobody, nobody, 0, &mut table) else {
+    let Ok(y) = Yard::open(bays, rails, &[], &[], 0, &mut table) else {
         return false;
     };
     let n = y.bays;
-    if SPAN < n {
-        return false;
-    }
-    if n <= u as usize {
-        return false;
-    }
-    if n <= v as usize {
+    if SPAN < n || n <= usize::from(u) || n <= usize::from(v) {
         return false;
     }
     path_is(n, &table, held, u, v, want)
@@ -112,17 +63,13 @@ fn path_case(text: &[u8], at: usize) -> Outcome {
     let mut avoided = [0u16; 260];
     let mut want = [0u16; 260];
     let mut held = [0u64; WORDS];
-    let nobody = [0u16; 1];
     let bays = cases::number(text, at);
     let u = cases::number(text, bays.next);
     let v = cases::number(text, u.next);
-    let r = cases::list16(text, v.next, &mut rails);
-    let a = cases::list16(text, r.next, &mut avoided);
-    let w = cases::list16(text, a.next, &mut want);
-    let i = r.count;
-    let j = a.count;
-    let k = w.count;
-    gather(&avoided[..j], &mut held);
+    let r = cases::list(text, v.next, &mut rails);
+    let a = cases::list(text, r.next, &mut avoided);
+    let w = cases::list(text, a.next, &mut want);
+    gather(&avoided[..a.count], &mut held);
     let from = (u.value % 65536) as u16;
     let to = (v.value % 65536) as u16;
     Outcome {
@@ -130,33 +77,12 @@ fn path_case(text: &[u8], at: usize) -> Outcome {
             bays.value,
             from,
             to,
-            &rails[..i],
-            &nobody[..0],
+            &rails[..r.count],
             &held,
-            &want[..k],
+            &want[..w.count],
         ),
         next: w.next,
     }
-}
-
-// How many cases of the text agree.
-fn paths_agreeing(rt: &impl Print, text: &[u8]) -> io::Result<u64> {
-    let count = cases::number(text, 0);
-    let total = count.value;
-    let mut next = count.next;
-    let mut agree: u64 = 0;
-    let mut i: u64 = 0;
-    while i < total {
-        let o = path_case(text, next);
-        if o.agrees {
-            agree += 1;
-        } else {
-            report(rt, "path case ", i)?;
-        }
-        next = o.next;
-        i += 1;
-    }
-    Ok(agree)
 }
 
 // Vacates x. The table that is lent ends with the rails, so that no levels are asked of it.
@@ -189,7 +115,7 @@ fn vacated(
     placement: &mut [u16],
     standing: &mut [u16],
     out: &mut [u64],
-) -> Code
+) -> Vacated
     requires { (length standing.old ≤ span)
         × (x < length standing.old)
         × (length held.now ≡ words)
@@ -200,14 +126,10 @@ fn vacated(
 {
     let mut empty = [0u64; WORDS];
     placing::place(placement, standing, &mut empty);
-    match vacated_by_rails(table, held, Bay(x), placement, standing, &mut empty, out) {
-        Vacated::Empty => Code(0, 0),
-        Vacated::Filled(_, m) => Code(1, m),
-        Vacated::Failed => Code(2, 0),
-    }
+    vacated_by_rails(table, held, Bay(x), placement, standing, &mut empty, out)
 }
 
-// Opens the yard first, and holds the answer against the one that is wanted.
+// Opens the yard first, and holds the answer against the one that is wanted: 0 for empty, 1 for filled, 2 for failed, and the crossings.
 fn vacate_agrees(
     bays: u64,
     x: u16,
@@ -222,22 +144,18 @@ fn vacate_agrees(
     let mut table = [0u64; Yard::TABLE];
     let mut standing = [0u16; SPAN];
     let mut out = [0u64; SPAN];
-    let Opened::Open(y) = Yard::open(bays, rails, placement, placement, 0, &mut table) else {
+    let Ok(y) = Yard::open(bays, rails, placement, placement, 0, &mut table) else {
         return false;
     };
     let n = y.bays;
-    if SPAN < n {
+    if SPAN < n || n <= usize::from(x) {
         return false;
     }
-    if n <= x as usize {
-        return false;
+    match vacated(&table, held, x, placement, &mut standing[..n], &mut out) {
+        Vacated::Empty => kind == 0 && want.is_empty(),
+        Vacated::Filled(_, m) => kind == 1 && m <= SPAN && &out[..m] == want,
+        Vacated::Failed => kind == 2 && want.is_empty(),
     }
-    let r = vacated(&table, held, x, placement, &mut standing[..n], &mut out);
-    let m = r.1;
-    if SPAN < m {
-        return false;
-    }
-    r.0 == kind && same64(&out[..m], want)
 }
 
 fn vacate_case(text: &[u8], at: usize) -> Outcome {
@@ -248,69 +166,63 @@ fn vacate_case(text: &[u8], at: usize) -> Outcome {
     let mut held = [0u64; WORDS];
     let bays = cases::number(text, at);
     let x = cases::number(text, bays.next);
-    let r = cases::list16(text, x.next, &mut rails);
-    let p = cases::list16(text, r.next, &mut placement);
-    let h = cases::list16(text, p.next, &mut listed);
+    let r = cases::list(text, x.next, &mut rails);
+    let p = cases::list(text, r.next, &mut placement);
+    let h = cases::list(text, p.next, &mut listed);
     let kind = cases::number(text, h.next);
-    let w = cases::list64(text, kind.next, &mut want);
-    let i = r.count;
-    let j = p.count;
-    let k = h.count;
-    let l = w.count;
-    gather(&listed[..k], &mut held);
+    let w = cases::list(text, kind.next, &mut want);
+    gather(&listed[..h.count], &mut held);
     let bay = (x.value % 65536) as u16;
     Outcome {
         agrees: vacate_agrees(
             bays.value,
             bay,
-            &rails[..i],
-            &mut placement[..j],
+            &rails[..r.count],
+            &mut placement[..p.count],
             &held,
             kind.value,
-            &want[..l],
+            &want[..w.count],
         ),
         next: w.next,
     }
 }
 
-fn vacates_agreeing(rt: &impl Print, text: &[u8]) -> io::Result<u64> {
+// How many cases of the text agree.
+fn agreeing<F: Fn(&[u8], usize) -> Outcome>(
+    rt: &impl Print,
+    name: &str,
+    text: &[u8],
+    case: F,
+) -> io::Result<u64>
+    requires { F.IsAlwaysCallable case }
+{
     let count = cases::number(text, 0);
-    let total = count.value;
     let mut next = count.next;
     let mut agree: u64 = 0;
-    let mut i: u64 = 0;
-    while i < total {
-        let o = vacate_case(text, next);
+    for i in 0..count.value {
+        let o = case(text, next);
         if o.agrees {
             agree += 1;
         } else {
-            report(rt, "vacate case ", i)?;
+            println!(rt; "{name} case {i} does not agree")?;
         }
         next = o.next;
-        i += 1;
     }
     Ok(agree)
 }
 
-fn report(rt: &impl Print, what: &str, i: u64) -> io::Result<()> {
-    println!(rt; "{what}{i} does not agree")
-}
-
-fn paths_of(rt: &HostRuntime, name: &str) -> io::Result<u64> {
+// How many cases of the file agree.
+fn of_file<F: Fn(&[u8], usize) -> Outcome>(rt: &HostRuntime, name: &str, case: F) -> io::Result<u64>
+    requires { F.IsAlwaysCallable case }
+{
     let mut text = [0u8; cases::TEXT];
     let n = cases::load(rt, name, &mut text)?;
-    paths_agreeing(rt, &text[..n])
-}
-
-fn vacates_of(rt: &HostRuntime, name: &str) -> io::Result<u64> {
-    let mut text = [0u8; cases::TEXT];
-    let n = cases::load(rt, name, &mut text)?;
-    vacates_agreeing(rt, &text[..n])
+    agreeing(rt, name, &text[..n], case)
 }
 
 fn main(rt: HostRuntime) -> io::Result<()> {
-    let paths = paths_of(&rt, "path")?;
+    let paths = of_file(&rt, "path", path_case)?;
     println!(rt; "{paths} paths agree")?;
-    let vacates = vacates_of(&rt, "vacate")?;
+    let vacates = of_file(&rt, "vacate", vacate_case)?;
     println!(rt; "{vacates} vacates agree")
 }

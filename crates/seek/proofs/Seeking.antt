@@ -1,7 +1,7 @@
 -- A search from the carrier's bay: where it stands, and the path that is read back to a bay of its ring. Where a ring is near, none of its bays is tried
 -- again.
 -- Assumes nothing.
-use mathlib.Core.Path.{◌≡◌, sym, ◌∙◌, ap, refl}
+use mathlib.Core.Path.{◌≡◌, sym, ◌∙◌, ap}
 use mathlib.Core.Bool.{true, false}
 use mathlib.Core.List.{List, [], ◌∷◌}
 use mathlib.Core.Option.{some}

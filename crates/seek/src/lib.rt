@@ -9,7 +9,7 @@ ghost use Rattle.scouts.specs.Scouts.{ForeseeAsks};
 ghost use Rattle.near.specs.Seeking.{SeekAsks, SeekSays};
 ghost use Rattle.seek.specs.Far.{TrySays, FirstFar, FarAsks};
 
-use acting::Tried;
+use acting::Tally;
 use docket::{Bay, Carrier};
 use near::Nearby;
 use scouts::Scouts;
@@ -25,7 +25,7 @@ pub struct Outset {
 // What came of a junction, and where the scouts are then.
 #[derive(Clone, Copy)]
 pub struct Turn {
-    pub tried: Tried,
+    pub tried: Option<Tally>,
     pub scouts: Scouts,
 }
 
@@ -51,7 +51,7 @@ fn try_junction(
     let next = outlook.scouts;
     if outlook.hopeless {
         return Turn {
-            tried: Tried::Failed,
+            tried: None,
             scouts: next,
         };
     }
@@ -73,7 +73,7 @@ fn first_far(ring: &[u64], k: usize, d: usize) -> usize
 }
 
 // The trial at the first junction where it succeeds, ring by ring from the carrier's bay and rising in each ring, those of the first k rings having
-// been tried; the list is left as that trial leaves it.
+// been tried; the list is left as that trial leaves it. A yard has not more rings than bays.
 fn seek_far(
     table: &[u64],
     r: Carrier,
@@ -83,7 +83,7 @@ fn seek_far(
     standing: &[u16],
     empty: &[u64],
     out: &mut [u64],
-) -> Tried
+) -> Option<Tally>
     requires ready { Ready table.now placement.now standing.now empty.now }
     requires far_asks { FarAsks r.0 s.0 table.now placement.now standing.now k }
     ensures { SeekSays r.0 s.0 table.now placement.now standing.now out.new result }
@@ -103,8 +103,7 @@ fn seek_far(
     met[0] = u;
     let mut done = 0;
     let mut count = 1;
-    let mut d = 0;
-    'nearest: loop {
+    for d in 0..n {
         let mut v = first_far(&ring, k, d);
         while v < words::SPAN {
             let junction = Bay(v as u16);
@@ -129,8 +128,8 @@ fn seek_far(
                 );
                 let tried = turn.tried;
                 scouts = turn.scouts;
-                if let Tried::Done(m) = tried {
-                    break 'nearest Tried::Done(m);
+                if let Some(m) = tried {
+                    return Some(m);
                 }
             }
             v = words::next_from(&ring, v + 1);
@@ -147,11 +146,11 @@ fn seek_far(
             &mut before,
         );
         if count == end {
-            break 'nearest Tried::Failed;
+            return None;
         }
         done = end;
-        d += 1;
     }
+    None
 }
 
 // The trial at the first junction where it succeeds, near or far; the list is left as that trial leaves it.
@@ -163,15 +162,15 @@ pub fn seek(
     standing: &[u16],
     empty: &[u64],
     out: &mut [u64],
-) -> Tried
+) -> Option<Tally>
     requires ready { Ready table.now placement.now standing.now empty.now }
     requires seek_asks { SeekAsks r.0 s.0 table.now placement.now standing.now }
     ensures { SeekSays r.0 s.0 table.now placement.now standing.now out.new result }
 {
     let close = near::seek_near(table, r, s, placement, standing, empty, out);
     match close {
-        Nearby::Found(m) => Tried::Done(m),
+        Nearby::Found(m) => Some(m),
         Nearby::Farther(k) => seek_far(table, r, s, k, placement, standing, empty, out),
-        Nearby::Nowhere => Tried::Failed,
+        Nearby::Nowhere => None,
     }
 }

@@ -4,7 +4,8 @@ ghost use Rattle.link.specs.Link.{saying_of};
 ghost use Rattle.numbers.specs.Tells.{Tells};
 ghost use Rattle.sejjekoru.specs.Serial.{saying_number, saying_value, BeginTells, PieceTells, EndTells};
 
-use link::{Link, Said};
+use docket::Refusal;
+use link::Link;
 
 // "more" is no refusal, so the table has no number for it.
 const MORE: u64 = 101;
@@ -16,15 +17,15 @@ struct Spoken {
     link: Link,
 }
 
-fn told(said: Said, value: &mut u64) -> u64
+fn told(said: Option<Result<u64, Refusal>>, value: &mut u64) -> u64
     ensures { Tells (saying_number (saying_of said)) (saying_value (saying_of said)) result value.new }
 {
     match said {
-        Said::More => {
+        None => {
             *value = 0;
             MORE
         }
-        Said::Told(verdict) => numbers::told(verdict, value),
+        Some(verdict) => numbers::told(verdict, value),
     }
 }
 

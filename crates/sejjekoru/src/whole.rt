@@ -2,7 +2,7 @@
 // only read files, call and write.
 ghost use Rattle.sejjekoru.specs.Whole.{ProgramTells, PrintPlanTells, ReadPlanTells, ReadReportsTells};
 
-use docket::{Refusal, Verdict};
+use docket::Refusal;
 use yard::Yard;
 
 #[unsafe(no_mangle)]
@@ -34,7 +34,7 @@ pub extern "C" fn sejjekoru_print_plan(plan: &[u64], out: &mut [u8], value: &mut
     ensures { PrintPlanTells plan.now out.old result value.new out.new }
 {
     if Yard::CROSSINGS < plan.len() {
-        return numbers::told(Verdict::Denied(Refusal::Size), value);
+        return numbers::told(Err(Refusal::Size), value);
     }
     let has = out.len();
     let needed = handing::plan(plan, out);

@@ -1,18 +1,18 @@
 -- No trip begins where nobody enters the bay any more, or another carrier is the next to do so.
 use mathlib.Core.Path.{◌≡◌, refl, sym, ◌∙◌, ap}
-use mathlib.Core.Bool.{true, false}
+use mathlib.Core.Bool.{false}
 use mathlib.Core.List.{List, []}
 use Prim.Native.Nat.{ℕ, suc, ◌≤◌, ◌<◌, ◌+◌, ◌-◌}
 use native.Mathlib.Omega.{arith}
 use borrow.Author.Tests.{eq-eqb, eqb-true, eqb-false}
 use lib.Dec.{eqb}
 use lib.ListN.{length, get_or, replicate, length-replicate, get_or-replicate}
-use Rattle.paper.specs.Basics.{◌and◌, ◌or◌}
+use Rattle.paper.specs.Basics.{◌or◌}
 use Rattle.paper.specs.Yard.{crossings, named}
-use Rattle.paper.proofs.Tests.{by_cases, not-both, and_both, or-none}
+use Rattle.paper.proofs.Tests.{by_cases, not-both, or-none}
 use Rattle.words.specs.Sets.{mem}
 use Rattle.chains.specs.Links.{Passed, Met}
-use Rattle.trips.specs.Trips.{enters, is_of}
+use Rattle.trips.specs.Trips.{is_of}
 use Rattle.returning.specs.Returns.{last_from}
 use Rattle.returning.proofs.Returning.{returning-over, returning-barred, returning-end, no_return}
 use Rattle.setting_out.specs.SetOut.{StaysOut, SetOut, OneMore}
@@ -38,9 +38,8 @@ module _ (plan : List ℕ) (name next : ℕ) (later : name < next) (within : nex
   pub another-enters : next < length plan → is_of (named (crossings plan) name).carrier (named (crossings plan) next) ≡ false → StaysOut plan name
   another-enters h other =
       let here : get_or fresh next 0 ≡ 0 = get_or-replicate {A = ℕ} (length plan) next 0 0 h in
-      let into : enters (named (crossings plan) name).from (named (crossings plan) next) ≡ true = eq-eqb _ _ (met.meets h) in
       no_return (crossings plan) fresh name
-      (returning-barred plan fresh long (named (crossings plan) name) name next h (and_both _ _ (eq-eqb _ _ here) into) other ∙ over)
+      (returning-barred plan fresh long (named (crossings plan) name) name next h here (met.meets h) (eqb-false _ _ other) ∙ over)
 
 -- ## The set
 

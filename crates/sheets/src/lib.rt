@@ -15,11 +15,7 @@ pub fn gather(lines: &[Line]) -> HeldLines
     let count = lines.len();
     let top = held_lines::top(count);
     let mut kept = held_lines::no_lines();
-    let mut i = 0;
-    while i < top {
-        kept[i] = lines[i];
-        i += 1;
-    }
+    kept[..top].copy_from_slice(&lines[..top]);
     held_lines::hold(count, kept)
 }
 
@@ -29,11 +25,7 @@ pub fn fill(lines: &mut [Line], held: HeldLines)
     ensures { lines.new ≡ take held.count held.lines ++ drop held.count lines.old }
 {
     let top = held.count;
-    let mut i = 0;
-    while i < top {
-        lines[i] = held_lines::line_at(held, i);
-        i += 1;
-    }
+    lines[..top].copy_from_slice(&held.lines[..top]);
 }
 
 // One line changed, where there is one at that place.

@@ -1,4 +1,5 @@
 -- What shortening says, way out by way out: the check's refusal, 11, 25, and then 8 or the shorter plan.
+use Rattle.std.proofs.Common.{Err}
 use mathlib.Core.Path.{◌≡◌, sym}
 use mathlib.Core.Bool.{true, false}
 use mathlib.Core.List.{List}
@@ -17,15 +18,14 @@ use Rattle.laws.proofs.Handing.{check-fits}
 use Rattle.docket.specs.Reading.{refusal_of}
 use Rattle.docket.specs.declared.Refusal.{Refusal}
 use Rattle.docket.specs.declared.Refusal.TheVariants.{Mismarked, Begun}
-use Rattle.docket.specs.declared.Verdict.{Verdict}
-use Rattle.docket.specs.declared.Verdict.TheVariants.{Denied}
+use Rattle.docket.specs.Verdict.{Verdict}
 use Rattle.trips.specs.Shortening.{any_done, into_room, shorten_refusal, shortening}
 use Rattle.remaining.specs.Statements.{RoomSays}
 use Rattle.dropping.specs.Going.{Lawful}
 use Rattle.shorten.specs.Statements.{ShortenSays}
 
 module _ (o : Order) (plan marks out : List ℕ) where
-  pub says-refused : (r : Refusal) → some (refusal_of r) ≡ check o plan → ShortenSays o plan marks out (Denied r) out
+  pub says-refused : (r : Refusal) → some (refusal_of r) ≡ check o plan → ShortenSays o plan marks out (Err r) out
   unfolding shortening shorten_refusal unless written
   says-refused r h = record { answers = rw (← h); ends_as = rw (← h) }
 
@@ -42,12 +42,12 @@ module _ (o : Order) (plan marks out : List ℕ) where
         let c = clean_of o (length plan) p.sound in
         record { yard = yard_of o; start = o.starts; apart = (good_of o o.starts c.starts).apart; lawful = p.lawful }
 
-    pub says-mismarked : bad_marks (crossings plan) marks ≡ true → ShortenSays o plan marks out (Denied Mismarked) out
+    pub says-mismarked : bad_marks (crossings plan) marks ≡ true → ShortenSays o plan marks out (Err Mismarked) out
     unfolding shortening shorten_refusal unless written
     says-mismarked b = record { answers = rw (← passes, b); ends_as = rw (← passes, b) }
 
     module _ (b : bad_marks (crossings plan) marks ≡ false) where
-      pub says-begun : any_done marks ≡ true → ShortenSays o plan marks out (Denied Begun) out
+      pub says-begun : any_done marks ≡ true → ShortenSays o plan marks out (Err Begun) out
       unfolding shortening shorten_refusal unless written
       says-begun d = record { answers = rw (← passes, b, d); ends_as = rw (← passes, b, d) }
 

@@ -4,7 +4,7 @@ use Rattle.std.specs.Prelude.{◌≡◌, List, ℕ, length}
 use Rattle.paper.specs.Order.{Order}
 use Rattle.paper.specs.Answers.{told}
 use Rattle.docket.specs.Reading.{verdict_of}
-use Rattle.docket.specs.declared.Verdict.{Verdict}
+use Rattle.docket.specs.Verdict.{Verdict}
 use Rattle.trips.specs.Shortening.{shortening, shortening_end}
 
 module _ (o : Order) (plan marks : List ℕ) where

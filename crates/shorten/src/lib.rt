@@ -1,23 +1,42 @@
 // Plans shortened: there-and-back trips are dropped. Clearing working room takes time, so a plan gets room for about as many crossings as it has.
 #![tactic(auto)]
 
-ghost use Rattle.std.specs.Prelude.{◌≡◌};
+ghost use Rattle.std.specs.Prelude.{◌≡◌, ◌≤◌, ◌*◌};
 ghost use Rattle.paper.specs.Yard.{most_crossings};
 ghost use Rattle.paper.specs.Order.{order};
 ghost use Rattle.remaining.specs.Statements.{RoomSays};
-ghost use Rattle.shorten.specs.Asks.{few_crossings, some_crossings, many_crossings, PlanAsks, RoomAsks};
+ghost use Rattle.chains.specs.Links.{links_each};
+ghost use Rattle.shorten.specs.Asks.{PlanAsks, RoomAsks};
 ghost use Rattle.shorten.specs.Statements.{ShortenSays};
 
-use checker::Checked;
-use docket::{Refusal, Verdict};
+use docket::Refusal;
 use yard::Yard;
 
-// Crossings that the rooms hold, beside that for the longest plan.
+// Crossings that the rooms hold, and for each the words of a set of so many names, and the links of so many crossings. Rattle computes no const argument,
+// so all have names.
 const FEW: usize = 4096;
+
+const FEW_WORDS: usize = FEW / 64;
+
+const FEW_LINKS: usize = FEW * chains::LINKS;
 
 const SOME: usize = 16384;
 
+const SOME_WORDS: usize = SOME / 64;
+
+const SOME_LINKS: usize = SOME * chains::LINKS;
+
 const MANY: usize = 32768;
+
+const MANY_WORDS: usize = MANY / 64;
+
+const MANY_LINKS: usize = MANY * chains::LINKS;
+
+const MOST: usize = Yard::CROSSINGS;
+
+const MOST_WORDS: usize = MOST / 64;
+
+const MOST_LINKS: usize = MOST * chains::LINKS;
 
 // The whole work, in lists that are lent: nothing is dropped yet.
 fn shorten_in(
@@ -26,7 +45,7 @@ fn shorten_in(
     todo: &mut [u64],
     links: &mut [u16],
     out: &mut [u64],
-) -> Verdict
+) -> Result<u64, Refusal>
     requires { RoomAsks plan.now gone.old todo.old links.old }
     ensures { RoomSays plan.now out.old result out.new }
 {
@@ -36,73 +55,40 @@ fn shorten_in(
     remaining::finish(plan, gone, out)
 }
 
-// The same, with room for a plan of few crossings.
-fn shorten_few(plan: &[u64], out: &mut [u64]) -> Verdict
-    requires { PlanAsks plan.now few_crossings }
+// The same, with room for a plan of ROOM crossings. The arrays stand here only, since clearing them takes time.
+fn shorten_within<const ROOM: usize, const WORDS: usize, const ROOM_LINKS: usize>(
+    plan: &[u64],
+    out: &mut [u64],
+) -> Result<u64, Refusal>
+    requires asked { PlanAsks plan.now ROOM }
+    requires held { ROOM ≤ most_crossings }
+    requires words_held { ROOM ≡ 64 * WORDS }
+    requires links_held { ROOM_LINKS ≡ ROOM * links_each }
     ensures { RoomSays plan.now out.old result out.new }
 {
     let count = plan.len();
     let long = count * chains::LINKS;
-    let mut gone = [0u8; FEW];
-    let mut todo = [0u64; FEW / 64];
-    let mut links = [0u16; chains::LINKS * FEW];
-    shorten_in(plan, &mut gone[..count], &mut todo, &mut links[..long], out)
-}
-
-// The same, with room for a plan of some crossings.
-fn shorten_some(plan: &[u64], out: &mut [u64]) -> Verdict
-    requires { PlanAsks plan.now some_crossings }
-    ensures { RoomSays plan.now out.old result out.new }
-{
-    let count = plan.len();
-    let long = count * chains::LINKS;
-    let mut gone = [0u8; SOME];
-    let mut todo = [0u64; SOME / 64];
-    let mut links = [0u16; chains::LINKS * SOME];
-    shorten_in(plan, &mut gone[..count], &mut todo, &mut links[..long], out)
-}
-
-// The same, with room for a plan of many crossings.
-fn shorten_many(plan: &[u64], out: &mut [u64]) -> Verdict
-    requires { PlanAsks plan.now many_crossings }
-    ensures { RoomSays plan.now out.old result out.new }
-{
-    let count = plan.len();
-    let long = count * chains::LINKS;
-    let mut gone = [0u8; MANY];
-    let mut todo = [0u64; MANY / 64];
-    let mut links = [0u16; chains::LINKS * MANY];
-    shorten_in(plan, &mut gone[..count], &mut todo, &mut links[..long], out)
-}
-
-// The same, with room for the longest plan.
-fn shorten_most(plan: &[u64], out: &mut [u64]) -> Verdict
-    requires { PlanAsks plan.now most_crossings }
-    ensures { RoomSays plan.now out.old result out.new }
-{
-    let count = plan.len();
-    let long = count * chains::LINKS;
-    let mut gone = [0u8; Yard::CROSSINGS];
-    let mut todo = [0u64; Yard::CROSSINGS / 64];
-    let mut links = [0u16; chains::LINKS * Yard::CROSSINGS];
+    let mut gone = [0u8; ROOM];
+    let mut todo = [0u64; WORDS];
+    let mut links = [0u16; ROOM_LINKS];
     shorten_in(plan, &mut gone[..count], &mut todo, &mut links[..long], out)
 }
 
 // The same, with the room that the plan needs.
-fn shorten_checked(plan: &[u64], out: &mut [u64]) -> Verdict
+fn shorten_checked(plan: &[u64], out: &mut [u64]) -> Result<u64, Refusal>
     requires { PlanAsks plan.now most_crossings }
     ensures { RoomSays plan.now out.old result out.new }
 {
     if plan.len() <= FEW {
-        return shorten_few(plan, out);
+        return shorten_within::<FEW, FEW_WORDS, FEW_LINKS>(plan, out);
     }
     if plan.len() <= SOME {
-        return shorten_some(plan, out);
+        return shorten_within::<SOME, SOME_WORDS, SOME_LINKS>(plan, out);
     }
     if plan.len() <= MANY {
-        return shorten_many(plan, out);
+        return shorten_within::<MANY, MANY_WORDS, MANY_LINKS>(plan, out);
     }
-    shorten_most(plan, out)
+    shorten_within::<MOST, MOST_WORDS, MOST_LINKS>(plan, out)
 }
 
 // A plan that passes the check, shortened into the first places of `out`, as long as no crossing of it is done. A refusal changes nothing.
@@ -115,19 +101,19 @@ pub fn shorten(
     plan: &[u64],
     marks: &[u8],
     out: &mut [u64],
-) -> Verdict
+) -> Result<u64, Refusal>
     ensures { ShortenSays (order bays rails.now start.now goal.now)
         plan.now marks.now out.old result out.new }
 {
     let checked = checker::check(bays, rails, start, goal, plan);
-    if let Checked::Refused(r) = checked {
-        return Verdict::Denied(r);
+    if let Err(r) = checked {
+        return Err(r);
     }
     if begun::is_fresh(plan, marks) {
         return shorten_checked(plan, out);
     }
     if mark_order::bad_marks(plan, marks) {
-        return Verdict::Denied(Refusal::Mismarked);
+        return Err(Refusal::Mismarked);
     }
-    Verdict::Denied(Refusal::Begun)
+    Err(Refusal::Begun)
 }

@@ -1,4 +1,4 @@
 pub mod Numbers
 pub mod Rows
 pub mod Counted
-pub mod Taking
+pub mod Left

@@ -4,7 +4,7 @@ use mathlib.Core.Path.{◌≡◌, refl, ◌∙◌}
 use mathlib.Core.Bool.{true, false}
 use mathlib.Core.List.{[], ◌∷◌}
 use mathlib.Core.Option.{Option, none}
-use Prim.Native.Nat.{ℕ, zero, suc, ◌+◌, ◌-◌, ◌*◌, ◌≤◌, ◌<◌}
+use Prim.Native.Nat.{ℕ, zero, suc, ◌+◌, ◌-◌, ◌*◌, ◌<◌}
 use native.Mathlib.Omega.{arith}
 use lib.Dec.{leb}
 use lib.ListN.{length, take, drop, get_or, length-drop}
@@ -18,24 +18,6 @@ use Rattle.paper.proofs.Fields.{and-false}
 use Rattle.lines.specs.Lines.{begins}
 use Rattle.lines.proofs.Words.{begins-take, begins-long}
 use Rattle.sides.specs.Letters.{digit_of, side_of, side_in}
-
-pub digit-in : (b : ℕ) → 48 ≤ b → b ≤ 57 → b - 48 ≡ digit_of b
-unfolding digit_of is_digit ◌and◌
-digit-in b h i = rw (le-leb 48 b h, le-leb b 57 i)
-
-pub digit-high : (b : ℕ) → 48 ≤ b → 57 < b → 100 ≡ digit_of b
-unfolding digit_of is_digit ◌and◌
-digit-high b h i = rw (le-leb 48 b h, lt-leb b 57 i)
-
-pub digit_low : (b : ℕ) → b < 48 → 100 ≡ digit_of b
-unfolding digit_of is_digit ◌and◌
-digit_low b h = rw (lt-leb 48 b h)
-
-pub within_in : (n : ℕ) → n ≤ 64 → n ≡ (if leb n 64 then n else 0)
-within_in n h = rw (le-leb n 64 h)
-
-pub within-out : (n : ℕ) → 64 < n → 0 ≡ (if leb n 64 then n else 0)
-within-out n h = rw (lt-leb n 64 h)
 
 -- a side by its number
 abbrev limited : ℕ → Option ℕ

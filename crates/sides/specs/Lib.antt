@@ -1,2 +1,4 @@
 pub mod Letters
 pub mod Layout
+pub mod Taken
+pub mod Sides

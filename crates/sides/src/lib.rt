@@ -8,7 +8,7 @@ ghost use Rattle.paper.specs.Map.{side_after, bay_letter, is_row, read_map};
 ghost use Rattle.sides.specs.Letters.{letter, digit_of, side_in, side_of};
 ghost use Rattle.sides.specs.Layout.{line_taken, end_taken, taken_of, sides_of, sides_read};
 
-use lines::FoundLine;
+use lines::Line;
 
 // The line that is due, with the sides read before it, and how many rows were read.
 #[derive(Clone, Copy)]
@@ -18,26 +18,6 @@ pub enum Due {
     Width(u8),
     Map(u8, u8),
     Row(u8, u8, u8),
-}
-
-// What a line makes of it.
-#[derive(Clone, Copy)]
-pub enum Taken {
-    Due(Due),
-    Bad,
-}
-
-// Height and width, or the first bad line.
-#[derive(Clone, Copy)]
-pub enum Sides {
-    Sides(u8, u8),
-    Bad(u64),
-}
-
-fn either(a: bool, b: bool) -> bool
-    ensures { result ≡ a or b }
-{
-    if a { true } else { b }
 }
 
 // A digit's number; 100, which is above any side, for any other byte.
@@ -96,124 +76,109 @@ fn side_after(word: &[u8], text: &[u8]) -> u8
 pub fn is_bay(b: u8) -> bool
     ensures { result ≡ bay_letter b }
 {
-    either(b == 46, b == 71)
+    b == b'.' || b == b'G'
 }
 
 // A letter of a row: a bay's or a wall's.
 pub fn is_letter(b: u8) -> bool
     ensures { result ≡ letter b }
 {
-    either(
-        is_bay(b),
-        either(either(either(b == 64, b == 79), b == 84), b == 87),
-    )
+    is_bay(b) || b == b'@' || b == b'O' || b == b'T' || b == b'W'
 }
 
 fn all_letters(text: &[u8]) -> bool
     ensures { result ≡ all letter text.now }
 {
-    let mut i = 0;
-    while i < text.len() {
-        if is_letter(text[i]) {
-            i += 1;
-        } else {
-            return false;
-        }
-    }
-    true
+    text.iter().all(|b| is_letter(*b))
 }
 
 fn is_row(text: &[u8], width: u8) -> bool
     ensures { result ≡ is_row width text.now }
 {
-    if text.len() == width as usize {
-        return all_letters(text);
-    }
-    false
+    text.len() == width as usize && all_letters(text)
 }
 
 // The due line is this one.
-fn take(due: Due, text: &[u8]) -> Taken
+fn take(due: Due, text: &[u8]) -> Option<Due>
     ensures { taken_of result ≡ line_taken due text.now }
 {
     match due {
         Due::Octile => {
             if lines::is_word(text, b"type octile") {
-                return Taken::Due(Due::Height);
+                return Some(Due::Height);
             }
-            Taken::Bad
+            None
         }
         Due::Height => {
             let h = side_after(b"height ", text);
             if h == 0 {
-                return Taken::Bad;
+                return None;
             }
-            Taken::Due(Due::Width(h))
+            Some(Due::Width(h))
         }
         Due::Width(h) => {
             let w = side_after(b"width ", text);
             if w == 0 {
-                return Taken::Bad;
+                return None;
             }
-            Taken::Due(Due::Map(h, w))
+            Some(Due::Map(h, w))
         }
         Due::Map(h, w) => {
             if lines::is_word(text, b"map") {
-                return Taken::Due(Due::Row(h, w, 0));
+                return Some(Due::Row(h, w, 0));
             }
-            Taken::Bad
+            None
         }
         Due::Row(h, w, rows) => row(h, w, rows, text),
     }
 }
 
 // The due row is this line.
-fn row(h: u8, w: u8, rows: u8, text: &[u8]) -> Taken
+fn row(h: u8, w: u8, rows: u8, text: &[u8]) -> Option<Due>
     ensures { taken_of result ≡ line_taken (Due.Row h w rows) text.now }
 {
     if rows < h {
         if is_row(text, w) {
-            return Taken::Due(Due::Row(h, w, rows + 1));
+            return Some(Due::Row(h, w, rows + 1));
         }
-        return Taken::Bad;
+        return None;
     }
-    Taken::Bad
+    None
 }
 
 // The file ends where this line is due, the n-th.
-fn end(due: Due, n: u64) -> Sides
+fn end(due: Due, n: u64) -> Result<(u8, u8), u64>
     ensures { sides_of result ≡ end_taken n due }
 {
     match due {
-        Due::Octile => Sides::Bad(n),
-        Due::Height => Sides::Bad(n),
-        Due::Width(_) => Sides::Bad(n),
-        Due::Map(_, _) => Sides::Bad(n),
+        Due::Octile => Err(n),
+        Due::Height => Err(n),
+        Due::Width(_) => Err(n),
+        Due::Map(_, _) => Err(n),
         Due::Row(h, w, rows) => {
             if rows == h {
-                return Sides::Sides(h, w);
+                return Ok((h, w));
             }
-            Sides::Bad(n)
+            Err(n)
         }
     }
 }
 
 // The sides of the map, or the first bad line.
-pub fn read(file: &[u8]) -> Sides
+pub fn read(file: &[u8]) -> Result<(u8, u8), u64>
     ensures { sides_of result ≡ sides_read (read_map file.now) }
 {
     let mut due = Due::Octile;
     let mut at = 0;
     let mut n: u64 = 1;
-    loop {
-        let FoundLine::Text { end: stop, next } = lines::next_line(file, at) else {
-            return end(due, n);
-        };
-        let Taken::Due(d) = take(due, &file[at..stop]) else {
-            return Sides::Bad(n);
+    // Where a line ends is known only once it is found, and the number is wanted behind the loop too: a `for` over numbers would be no plainer.
+    while let Some(Line { end: stop, next }) = lines::next_line(file, at) {
+        let Some(d) = take(due, &file[at..stop]) else {
+            return Err(n);
         };
         due = d;
         at = next;
         n += 1;
     }
+    end(due, n)
 }

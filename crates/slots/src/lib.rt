@@ -30,7 +30,7 @@ pub fn next_slot(x: Crossing, carriers: &mut [u32; BAYS], bays: &mut [u32; BAYS]
     let carrier = x.carrier.0 as usize;
     let from = x.from.0 as usize;
     let to = x.to.0 as usize;
-    let slot = higher(carriers[carrier], higher(bays[from], bays[to])) + 1;
+    let slot = carriers[carrier].max(bays[from].max(bays[to])) + 1;
     carriers[carrier] = slot;
     bays[from] = slot;
     bays[to] = slot;
@@ -44,9 +44,7 @@ pub fn slot_pass(plan: &[u64], out: &mut [u32])
 {
     let mut carriers: [u32; BAYS] = [0; BAYS];
     let mut bays: [u32; BAYS] = [0; BAYS];
-    let mut i = 0;
-    while i < plan.len() {
+    for i in 0..plan.len() {
         out[i] = next_slot(plans::crossing_at(plan, i), &mut carriers, &mut bays);
-        i += 1;
     }
 }

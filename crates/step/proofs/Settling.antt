@@ -1,6 +1,7 @@
 -- A step trades the bays u, where r stood, and w among the finished carriers: r is at w, and one of them that stood there is at u. So the set of their
 -- bays afterwards is the set before with u and w traded.
 -- Assumes nothing.
+use Rattle.std.proofs.Common.{Some}
 use mathlib.Core.Path.{◌≡◌, sym, ap, ◌∙◌, refl}
 use mathlib.Core.Bool.{false}
 use mathlib.Core.List.{List, [], ◌∷◌}
@@ -26,7 +27,6 @@ use Rattle.moving.proofs.Playing.{carrier-is}
 use Rattle.swap.proofs.FromBelow.{in-bays}
 use Rattle.acting.specs.Acting.{Tabled, Tallied, Proceeds}
 use Rattle.acting.specs.declared.Tally.{Tally}
-use Rattle.acting.specs.declared.Tried.TheVariants.{Done}
 use Rattle.acting.proofs.Acting.{tried-done}
 use Rattle.step.specs.Asking.{BaysBelow, CanStep}
 use Rattle.step.proofs.Stepping.{sound-of, railed}
@@ -103,7 +103,7 @@ module _ {n : ℕ} {table : List ℕ} (t : Tabled n table) (most : n ≤ span) {
   pub stepped-of : (m : Made) → step t.yard finished r w p ≡ some m → Stepped t.yard (sound-of t most can.loopless) finished r w p m.moves
   stepped-of m e = step-steps t.yard (sound-of t most can.loopless) finished r w p good_of can.carrier_there can.finished_there (railed t most can k) m e
 
-  pub settled-after : {out : List ℕ} {at b : Tally} {p' standing' empty' out' settled settled' : List ℕ} → Proceeds (step t.yard finished r w p) n p out at p' standing' empty' out' (Done b)
+  pub settled-after : {out : List ℕ} {at b : Tally} {p' standing' empty' out' settled settled' : List ℕ} → Proceeds (step t.yard finished r w p) n p out at p' standing' empty' out' (Some b)
       → BaysBelow finished p settled → length settled' ≡ length settled → ((b : Bay) → mem settled' b ≡ mem settled (trade (bay_of p r) w b)) → BaysBelow finished p' settled'
   settled-after {p' = p'} a s kept traded =
       let d = tried-done a.tries in

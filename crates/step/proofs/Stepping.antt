@@ -1,6 +1,7 @@
 -- A step is a vacate and a crossing, or where the vacate fails a swap: a carrier stands at a bay that could not be vacated, and it is
 -- beside r, which the swap asks.
 -- Assumes nothing.
+use Rattle.std.proofs.Common.{Some}
 use mathlib.Core.Path.{◌≡◌, sym, ◌∙◌, refl}
 use mathlib.Core.Bool.{true, false}
 use mathlib.Core.List.{List, [], ◌∷◌}
@@ -28,8 +29,7 @@ use Rattle.acting.specs.Acting.{Tabled, Tallied, Proceeds}
 use Rattle.acting.specs.declared.Tally.{Tally}
 use Rattle.acting.proofs.Acting.{tallied-none, tallied-then, proceeds-some}
 use Rattle.step.specs.Asking.{Loopless, BaysBelow, CanStep}
-use Rattle.acting.specs.declared.Tried.TheVariants.{Done}
-use Rattle.acting.specs.declared.Tried.{Tried}
+use Rattle.acting.specs.Tried.{Tried}
 
 pub sound-of : {n : ℕ} {table : List ℕ} (t : Tabled n table) → n ≤ span → Loopless n table → Sound t.yard
 sound-of {n} t most l = record {
@@ -106,7 +106,7 @@ module _ {n : ℕ} {table : List ℕ} (t : Tabled n table) (most : n ≤ span) {
     w-empty q e = rw e vac.empties
 
     pub stepped-cross : {out out₁ : List ℕ} {at a b : Tally} {q standing₁ empty₁ p' standing' empty' out' : List ℕ} → Tallied vs n p q standing₁ empty₁ out at out₁ a
-        → Tallied (only (crossing (carrier_at q (bay_of q r)) (bay_of q r) w ∷ [])) n q p' standing' empty' out₁ a out' b → Proceeds (step t.yard finished r w p) n p out at p' standing' empty' out' (Done b)
+        → Tallied (only (crossing (carrier_at q (bay_of q r)) (bay_of q r) w ∷ [])) n q p' standing' empty' out₁ a out' b → Proceeds (step t.yard finished r w p) n p out at p' standing' empty' out' (Some b)
     unfolding step ◌then◌ cross
     stepped-cross {q = q} x y =
         let same : carrier_at q (bay_of q r) ≡ r = carrier-is q (bay_of q r) r x.placed.apart (rw (x.moved, after-length) can.carrier_there) refl in
@@ -118,5 +118,5 @@ module _ {n : ℕ} {table : List ℕ} (t : Tabled n table) (most : n ≤ span) {
   free h = not-true (elem w p) (sym (k.empties w can.bay_there) ∙ sym h)
 
   pub stepped-free : {out : List ℕ} {at b : Tally} {p' standing' empty' out' : List ℕ} → true ≡ mem empty w → Tallied (only (crossing (carrier_at p (bay_of p r)) (bay_of p r) w ∷ [])) n p p' standing' empty' out at out' b
-      → Proceeds (step t.yard finished r w p) n p out at p' standing' empty' out' (Done b)
+      → Proceeds (step t.yard finished r w p) n p out at p' standing' empty' out' (Some b)
   stepped-free {out = out} {at = at} h y = stepped-cross (only []) (vacate-empty t.yard (holding finished r p) w p (free h)) (tallied-none n p standing empty out at k) y

@@ -10,7 +10,7 @@ use Rattle.moving.specs.Bounds.{swap_most}
 use Rattle.moving.specs.Placed.{Placed}
 use Rattle.acting.specs.Acting.{nothing, Within, ProceedsAs, CrossCounts}
 use Rattle.acting.specs.declared.Tally.{Tally}
-use Rattle.acting.specs.declared.Tried.{Tried}
+use Rattle.acting.specs.Tried.{Tried}
 use Rattle.step.specs.declared.NextStep.{NextStep}
 
 -- no rail joins a bay to itself

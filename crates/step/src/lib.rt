@@ -5,7 +5,7 @@
 ghost use Rattle.acting.specs.Acting.{Ready};
 ghost use Rattle.step.specs.Asking.{StepAsks, AsideAsks, StepSays, StepSettles, StepInAsks, StepInSays};
 
-use acting::{Tally, Tried};
+use acting::Tally;
 use docket::{Bay, Carrier};
 
 // One step: the carrier r that steps and the next bay w on its way. The carriers below `finished` are finished.
@@ -26,7 +26,7 @@ fn make_way(
     standing: &mut [u16],
     empty: &mut [u64],
     out: &mut [u64],
-) -> Tried
+) -> Option<Tally>
     requires ready { Ready table.now placement.old standing.old empty.old }
     requires step_asks { StepAsks next table.now placement.old standing.old settled.now }
     ensures { StepSays next table.now placement.old standing.old out.old
@@ -39,7 +39,7 @@ fn make_way(
     words::keep(&mut held, 0, settled);
     words::add(&mut held, placement[own] as usize);
     let vacated = acting::make_room(table, &held, w, placement, standing, empty, out);
-    let Tried::Done(done) = vacated else {
+    let Some(done) = vacated else {
         let bay = w.0 as usize;
         let s = Carrier(standing[bay] as u32);
         return swap::swap(table, r, s, placement, standing, empty, out);
@@ -48,7 +48,7 @@ fn make_way(
     let parked = done.parked;
     let u = Bay(placement[own]);
     let crossings = moving::cross(placement, standing, empty, u, w, out, made);
-    Tried::Done(Tally { crossings, parked })
+    Some(Tally { crossings, parked })
 }
 
 // The step where the bay e beside w is empty and the choice: the carrier at w crosses to it, then r crosses. An empty bay is not held, so nobody asks
@@ -61,7 +61,7 @@ fn step_aside(
     standing: &mut [u16],
     empty: &mut [u64],
     out: &mut [u64],
-) -> Tried
+) -> Option<Tally>
     requires ready { Ready table.now placement.old standing.old empty.old }
     requires aside_asks { AsideAsks next e.0 table.now placement.old standing.old empty.old }
     ensures { StepSays next table.now placement.old standing.old out.old
@@ -75,7 +75,7 @@ fn step_aside(
     let own = r.0 as usize;
     let u = Bay(placement[own]);
     let crossings = moving::cross(placement, standing, empty, u, w, out, made);
-    Tried::Done(Tally { crossings, parked })
+    Some(Tally { crossings, parked })
 }
 
 // One step of r to w: it is vacated, then r crosses; or else r is swapped with the carrier there. Vacating an empty bay moves
@@ -88,7 +88,7 @@ fn step_to(
     standing: &mut [u16],
     empty: &mut [u64],
     out: &mut [u64],
-) -> Tried
+) -> Option<Tally>
     requires ready { Ready table.now placement.old standing.old empty.old }
     requires step_asks { StepAsks next table.now placement.old standing.old settled.now }
     ensures { StepSays next table.now placement.old standing.old out.old
@@ -101,7 +101,7 @@ fn step_to(
         let own = r.0 as usize;
         let here = placement[own];
         let u = Bay(here);
-        return Tried::Done(acting::cross(placement, standing, empty, u, w, out));
+        return Some(acting::cross(placement, standing, empty, u, w, out));
     }
     let s = standing[bay];
     let there = s as usize;
@@ -148,7 +148,7 @@ pub fn step(
     empty: &mut [u64],
     settled: &mut [u64],
     out: &mut [u64],
-) -> Tried
+) -> Option<Tally>
     requires ready { Ready table.now placement.old standing.old empty.old }
     requires step_asks { StepAsks next table.now placement.old standing.old settled.old }
     ensures { StepSettles next table.now placement.old standing.old out.old
@@ -158,14 +158,11 @@ pub fn step(
     let w = next.to;
     let own = r.0 as usize;
     let u = Bay(placement[own]);
-    let stepped = step_to(table, settled, next, placement, standing, empty, out);
-    let Tried::Done(done) = stepped else {
-        return Tried::Failed;
-    };
+    let done = step_to(table, settled, next, placement, standing, empty, out)?;
     let m = Tally {
         crossings: done.crossings,
         parked: done.parked,
     };
     settle::settle(settled, u, w);
-    Tried::Done(m)
+    Some(m)
 }

@@ -4,20 +4,11 @@
 
 ghost use Rattle.std.specs.Prelude.{◌≡◌, set};
 
-// One byte.
-pub fn byte(out: &mut [u8], at: usize, b: u8)
-    ensures { out.new ≡ set out.old at b }
+// A byte, or a number of any width.
+pub fn store<T: Copy>(out: &mut [T], at: usize, x: T)
+    ensures { out.new ≡ set out.old at x }
 {
     if at < out.len() {
-        out[at] = b;
-    }
-}
-
-// One number of 16 bits.
-pub fn short(out: &mut [u16], at: usize, n: u16)
-    ensures { out.new ≡ set out.old at n }
-{
-    if at < out.len() {
-        out[at] = n;
+        out[at] = x;
     }
 }

@@ -3,8 +3,8 @@
 
 ghost use Rattle.surveying.specs.Says.{ReadSays, WriteSays};
 
-use docket::{Refusal, Verdict};
-use surveying::{Survey, Tested};
+use docket::Refusal;
+use surveying::Survey;
 
 // A file's yard: its bays, and its rail ends in the order held in the first places of the lent list.
 pub fn read(file: &[u8], rails: &mut [u16]) -> Survey
@@ -16,18 +16,15 @@ pub fn read(file: &[u8], rails: &mut [u16]) -> Survey
 }
 
 // A yard's file, in the first places of the lent list.
-pub fn write(bays: u64, rails: &[u16], out: &mut [u8]) -> Verdict
+pub fn write(bays: u64, rails: &[u16], out: &mut [u8]) -> Result<u64, Refusal>
     ensures { WriteSays bays rails.now out.old result out.new }
 {
-    let tested = surveying::test(bays, rails);
-    if let Tested::Refused(r) = tested {
-        return Verdict::Denied(r);
-    }
+    surveying::test(bays, rails)?;
     let mut none = [0u8; 1];
     let needed = survey_lines::write(bays, rails, &mut none);
     if out.len() < needed {
-        return Verdict::Denied(Refusal::Room(needed as u64));
+        return Err(Refusal::Room(needed as u64));
     }
     let written = survey_lines::write(bays, rails, out);
-    Verdict::Granted(written as u64)
+    Ok(written as u64)
 }

@@ -33,10 +33,8 @@ fn rails_from(out: &mut [u8], at: usize, rails: &[u16]) -> usize
     ensures { Goes rails.now out.old at out.new result }
 {
     let mut end = at;
-    let mut k = 0;
-    while k + 1 < rails.len() {
-        end = rail(out, end, rails[k], rails[k + 1]);
-        k += 2;
+    for k in 0..rails.len() / 2 {
+        end = rail(out, end, rails[2 * k], rails[2 * k + 1]);
     }
     end
 }

@@ -1,4 +1,5 @@
 -- What is answered and left, case by case: refused by the layout, by 1 to 3, by 8, or taken over whole.
+use Rattle.std.proofs.Common.{Err, Ok}
 use mathlib.Core.Path.{◌≡◌, refl, sym, ◌∙◌, ap}
 use mathlib.Core.List.{List, ◌++◌, map}
 use mathlib.Core.Option.{Option, none, some}
@@ -20,10 +21,9 @@ use Rattle.survey.specs.Narrow.{narrow}
 use Rattle.survey.proofs.Written.{passes}
 use Rattle.survey.proofs.Three.{narrow-three, narrow-same, long-size}
 use Rattle.edges.specs.Held.{Reads, answer_of, count_read}
-use Rattle.edges.specs.declared.SurveyRead.{SurveyRead}
-use Rattle.edges.specs.declared.SurveyRead.TheVariants.{Yard, Bad}
+use Rattle.edges.specs.SurveyRead.{SurveyRead}
 use Rattle.docket.specs.Reading.{verdict_of}
-use Rattle.docket.specs.declared.Verdict.{Verdict as Told}
+use Rattle.docket.specs.Verdict.{Verdict as Told}
 use Rattle.surveying.specs.Says.{Says, ReadSays, TakeSays, WriteSays}
 use Rattle.surveying.specs.declared.Survey.{Survey}
 
@@ -102,12 +102,12 @@ stands : (t empty held : List ℕ) (k : ℕ) → held ≡ sets empty 0 t → len
 stands t empty held k e c h = rw (e, ← c, sets-eq t empty 0 (omega arith)) (take-append_seam t (drop (0 + length t) empty))
 
 module _ (file : Text) (found : SurveyRead) (empty room before : List ℕ) (r : Survey) (after : List ℕ) (reads : Reads file found empty room) where
-  pub settle-bad : (l : ℕ) → found ≡ Bad l → r.bays ≡ 0 → verdict_of r.verdict ≡ denied (bad_survey l) → after ≡ before → ReadSays file before r after
+  pub settle-bad : (l : ℕ) → found ≡ Err l → r.bays ≡ 0 → verdict_of r.verdict ≡ denied (bad_survey l) → after ≡ before → ReadSays file before r after
   settle-bad l e b v k =
       let f = bad-found (read_survey file) l (ap answer_of (sym e) ∙ reads.answer) in
       rw f (record { answer = v; bays = b; left = k })
 
-  pub settle-yard : (n k : ℕ) → found ≡ Yard n k → length empty ≡ length room → 2 * most_rails ≤ length room → TakeSays n k room before r after → ReadSays file before r after
+  pub settle-yard : (n k : ℕ) → found ≡ Ok (n, k) → length empty ≡ length room → 2 * most_rails ≤ length room → TakeSays n k room before r after → ReadSays file before r after
   settle-yard n k e sized long t =
       let f = good-found (read_survey file) n k (ap answer_of (sym e) ∙ reads.answer) in
       by_cases (ltb (length room) k)

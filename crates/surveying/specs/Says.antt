@@ -1,6 +1,6 @@
 -- What reading and writing a surveyors' file answer, and what they leave in the lent lists.
 -- Assumes nothing.
-use Rattle.std.specs.Prelude.{List, ◌++◌, ◌≡◌, ℕ, ◌*◌, ◌≤◌, ◌<◌, length, take, drop}
+use Rattle.std.specs.Prelude.{List, ◌++◌, ◌≡◌, ℕ, ◌*◌, ◌≤◌, ◌<◌, length, take, drop, Err, Ok}
 use Rattle.std.proofs.Math.Option.{Option, none, some}
 use Rattle.paper.specs.Basics.{if_some◌then◌else◌}
 use Rattle.paper.specs.Limits.{most_rails}
@@ -10,18 +10,16 @@ use Rattle.paper.specs.Text.{Text, Read, good, bad_line}
 use Rattle.paper.specs.Docket as paper
 use Rattle.docket.specs.Reading.{refusal_of, verdict_of}
 use Rattle.docket.specs.declared.Refusal.{Refusal}
-use Rattle.docket.specs.declared.Verdict.{Verdict as Told}
-use Rattle.docket.specs.declared.Verdict.TheVariants.{Denied}
+use Rattle.docket.specs.Verdict.{Verdict as Told}
 use Rattle.survey.specs.Survey.{read_survey, survey_of, read_refusal, write_refusal}
-use Rattle.edges.specs.declared.SurveyRead.{SurveyRead}
+use Rattle.edges.specs.SurveyRead.{SurveyRead}
 use Rattle.edges.specs.Held.{Reads}
 use Rattle.surveying.specs.declared.Survey.{Survey}
-use Rattle.surveying.specs.declared.Tested.{Tested}
-use Rattle.surveying.specs.declared.Tested.TheVariants.{Passed, Refused}
+use Rattle.surveying.specs.Tested.{Tested}
 
 abbrev pub tested_of : Tested → Option paper.Refusal
-tested_of Passed = none
-tested_of (Refused r) = some (refusal_of r)
+tested_of (Ok tt) = none
+tested_of (Err r) = some (refusal_of r)
 
 -- ## Reading
 
@@ -55,7 +53,7 @@ ReadSays file before r after = Says (read_survey file) before r after
 -- a refusal, with no bays
 pub record Refuses (why : Refusal) (r : Survey) : Type 0 where
   pub bays : r.bays ≡ 0
-  pub verdict : r.verdict ≡ Denied why
+  pub verdict : r.verdict ≡ Err why
 
 -- refused as 1, and the list left as it was
 pub record TooLong (before : List ℕ) (r : Survey) (after : List ℕ) : Type 0 where

@@ -5,38 +5,27 @@ ghost use Rattle.std.specs.Prelude.{◌≡◌};
 ghost use Rattle.survey.specs.Survey.{first_three};
 ghost use Rattle.surveying.specs.Says.{tested_of, Refuses, AcceptSays, TakeSays, SettleSays};
 
-use docket::{Refusal, Verdict};
-use edges::SurveyRead;
-use yard::{Opened, Yard};
+use docket::Refusal;
+use yard::Yard;
 
 // The ends of a yard with the most rails.
 pub const ENDS: usize = 2 * Yard::RAILS;
-
-// What 1 to 3 say.
-#[derive(Clone, Copy)]
-pub enum Tested {
-    Passed,
-    Refused(Refusal),
-}
 
 // What reading answers: the number of rail ends and the bays, or a refusal and 0.
 #[derive(Clone, Copy)]
 pub struct Survey {
     pub bays: u64,
-    pub verdict: Verdict,
+    pub verdict: Result<u64, Refusal>,
 }
 
 // 1 to 3, of a yard with no carriers.
-pub fn test(bays: u64, rails: &[u16]) -> Tested
+pub fn test(bays: u64, rails: &[u16]) -> Result<(), Refusal>
     ensures { tested_of result ≡ first_three bays rails.now }
 {
     let mut table = [0u64; Yard::TABLE];
     let nobody = &rails[..0];
-    let opened = Yard::open_in(bays, rails, nobody, nobody, 0, &mut table);
-    if let Opened::Refused(r) = opened {
-        return Tested::Refused(r);
-    }
-    Tested::Passed
+    Yard::open_in(bays, rails, nobody, nobody, 0, &mut table)?;
+    Ok(())
 }
 
 // A refusal tells no bays.
@@ -45,7 +34,7 @@ fn refused(r: Refusal) -> Survey
 {
     Survey {
         bays: 0,
-        verdict: Verdict::Denied(r),
+        verdict: Err(r),
     }
 }
 
@@ -54,17 +43,17 @@ fn accept(bays: u64, ends: &[u16], rails: &mut [u16]) -> Survey
     ensures { AcceptSays bays ends.now rails.old result rails.new }
 {
     let tested = test(bays, ends);
-    if let Tested::Refused(r) = tested {
+    if let Err(r) = tested {
         return refused(r);
     }
     let count = ends.len();
     if rails.len() < count {
         return refused(Refusal::Room(count as u64));
     }
-    copies::shorts(rails, ends);
+    copies::copy(rails, ends);
     Survey {
         bays: bays,
-        verdict: Verdict::Granted(count as u64),
+        verdict: Ok(count as u64),
     }
 }
 
@@ -79,11 +68,11 @@ fn take_over(bays: u64, count: usize, room: &[u16], rails: &mut [u16]) -> Survey
 }
 
 // What was read, with its ends in a room for at least ENDS that `edges` filled: for a file that comes in pieces too.
-pub fn settle(found: SurveyRead, room: &[u16], rails: &mut [u16]) -> Survey
+pub fn settle(found: Result<(u32, u64), u64>, room: &[u16], rails: &mut [u16]) -> Survey
     ensures { SettleSays found room.now rails.old result rails.new }
 {
     match found {
-        SurveyRead::Bad(line) => refused(Refusal::BadSurvey(line)),
-        SurveyRead::Yard(bays, ends) => take_over(bays as u64, ends as usize, room, rails),
+        Err(line) => refused(Refusal::BadSurvey(line)),
+        Ok((bays, ends)) => take_over(bays as u64, ends as usize, room, rails),
     }
 }

@@ -1,6 +1,8 @@
 -- Where two neighbours of r's bay other than s's are empty, that bay is a junction and the nearest: nobody is brought, nobody is moved out
 -- of the way, and nothing is undone. The swap is the exchange alone.
 -- Assumes nothing.
+use Rattle.std.proofs.lemmas.Option.{same_Some}
+use Rattle.std.proofs.Common.{None, Some}
 use mathlib.Core.Path.{◌≡◌, sym, ◌∙◌, ap, refl}
 use mathlib.Core.Bool.{true, not}
 use mathlib.Core.List.{List, [], ◌∷◌}
@@ -33,7 +35,6 @@ use Rattle.seek.specs.FromBelow.{fitting}
 use Rattle.seek.proofs.FromBelow.{Sought, swap-found, sought-found, near_of}
 use Rattle.docket.specs.declared.Bay.{Bay as Numbered}
 use Rattle.swap.specs.Swapping.{TwoSpare, SpareSays}
-use Rattle.swap.specs.declared.Spare.TheVariants.{Both, Fewer}
 
 -- ## The two lowest
 
@@ -58,10 +59,10 @@ module _ (table empty row others fewer : List ℕ) (u w : ℕ) {x y : ℕ} (f : 
   }
 
 -- what is said of them
-pub both-spare : {table empty : List ℕ} {u w : Bay} (x y : Numbered) → TwoSpare table empty u w x.0 y.0 → SpareSays table empty u w (Both x y)
-both-spare x y two = record { both = λ a b e. let first : x ≡ a = cc in let second : y ≡ b = cc in rw (first, second) at two }
+pub both-spare : {table empty : List ℕ} {u w : Bay} (x y : Numbered) → TwoSpare table empty u w x.0 y.0 → SpareSays table empty u w (Some (x, y))
+both-spare x y two = record { both = λ a b e. let q = same_Some _ _ e in let first : x ≡ a = ap (λ t. t.0) q in let second : y ≡ b = ap (λ t. t.1) q in rw (first, second) at two }
 
-pub fewer-spare : {table empty : List ℕ} {u w : Bay} → SpareSays table empty u w Fewer
+pub fewer-spare : {table empty : List ℕ} {u w : Bay} → SpareSays table empty u w None
 fewer-spare = record { both = λ a b e. never (cc) }
 
 -- ## The swap

@@ -1,5 +1,6 @@
 -- The winner's trial trades the two carriers and leaves all others in place, so the end state is written by trading the two entries.
 -- Assumes nothing.
+use Rattle.std.proofs.Common.{None, Some}
 use mathlib.Core.Path.{◌≡◌, refl, sym, ◌∙◌, ap}
 use mathlib.Core.Bool.{false, not}
 use mathlib.Core.List.{List, map}
@@ -30,8 +31,6 @@ use Rattle.acting.specs.Acting.{Tabled, nothing, Proceeds}
 use Rattle.acting.specs.declared.Tally.{Tally}
 use Rattle.acting.proofs.Acting.{proceeds-none, proceeds-some}
 use Rattle.seek.specs.FromBelow.{Logged, Attempts}
-use Rattle.acting.specs.declared.Tried.TheVariants.{Done}
-use Rattle.acting.specs.declared.Tried.TheVariants.{Failed}
 
 module _ {n : ℕ} {p standing empty : List ℕ} (k : Placed n p standing empty) (r s : Carrier) (hr : r < length p) (hs : s < length p) (differ : s ≡ r → ⊥) (apart : Apart (traded r s p)) (long : n ≤ length standing) where
   in-traded : (b : Bay) → elem b (traded r s p) ≡ elem b p
@@ -91,7 +90,7 @@ module _ {n : ℕ} {table : List ℕ} (t : Tabled n table) {p standing empty : L
 
   -- the crossings of the swap are in the list, and the two have traded places
   pub traded-proceeds : {xs : Made} {out out' : List ℕ} {m : Tally} (p' standing' : List ℕ) → swap t.yard r s p ≡ some xs
-      → p' ≡ traded r s p → standing' ≡ standing_traded r s p standing → length out' ≡ length out → Logged xs out' m → Proceeds (swap t.yard r s p) n p out nothing p' standing' empty out' (Done m)
+      → p' ≡ traded r s p → standing' ≡ standing_traded r s p standing → length out' ≡ length out → Logged xs out' m → Proceeds (swap t.yard r s p) n p out nothing p' standing' empty out' (Some m)
   traded-proceeds {xs = xs} {out} {out'} {m} p' standing' made e d size l =
       let tr = swap-trades t.yard b.sound r s (ne_eqb r s (λ y. differ (sym y))) p k.apart hr hs b.beside xs home made in
       let apart : Apart (traded r s p) = rw tr.1 at (plan-apart t.yard p xs.moves k.apart tr.0) in
@@ -107,8 +106,8 @@ module _ {n : ℕ} {table : List ℕ} (t : Tabled n table) {p standing empty : L
 
   -- the trial that was sought is the swap
   pub committed : {out log : List ℕ} {m : Tally} (p' standing' : List ℕ) → p' ≡ traded r s p → standing' ≡ standing_traded r s p standing → length log ≡ length out
-      → Attempts (swap t.yard r s p) log (Done m) → Proceeds (swap t.yard r s p) n p out nothing p' standing' empty log (Done m)
+      → Attempts (swap t.yard r s p) log (Some m) → Proceeds (swap t.yard r s p) n p out nothing p' standing' empty log (Some m)
   committed {m = m} p' standing' e d size a = let q = a.done m refl in traded-proceeds p' standing' q.1 e d size q.2
 
-  pub not_found : {out log : List ℕ} → Attempts (swap t.yard r s p) log Failed → Proceeds (swap t.yard r s p) n p out nothing p standing empty log Failed
+  pub not_found : {out log : List ℕ} → Attempts (swap t.yard r s p) log None → Proceeds (swap t.yard r s p) n p out nothing p standing empty log None
   not_found a = proceeds-none (a.fails refl) refl

@@ -1,2 +1,3 @@
 pub mod Swapping
 pub mod FromBelow
+pub mod Spare

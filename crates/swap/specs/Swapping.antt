@@ -1,6 +1,6 @@
 -- A swap in code: which bays are to spare, and what is asked and said.
 -- Assumes nothing.
-use Rattle.std.specs.Prelude.{◌≡◌, List, [], ◌∷◌, ℕ, ◌+◌, ◌*◌, ◌≤◌, ◌<◌, length}
+use Rattle.std.specs.Prelude.{◌≡◌, List, [], ◌∷◌, ℕ, ◌+◌, ◌*◌, ◌≤◌, ◌<◌, length, Some}
 use Rattle.paper.specs.Procedure.{only, clear_once, swap}
 use Rattle.paper.specs.Yard.{Bay, Carrier}
 use Rattle.words.specs.Sets.{words, span}
@@ -8,13 +8,12 @@ use Rattle.docket.specs.declared.Bay.{Bay as Numbered}
 use Rattle.moving.specs.Bounds.{swap_most}
 use Rattle.moving.specs.Placed.{Placed}
 use Rattle.acting.specs.Acting.{Tabled, nothing, Within, Proceeds}
-use Rattle.acting.specs.declared.Tried.{Tried}
+use Rattle.acting.specs.Tried.{Tried}
 use Rattle.exchange.specs.Exchanging.{Noted, exchanges}
 use Rattle.seek.specs.FromBelow.{Beside}
 use Rattle.trade.specs.Trading.{TradeSays}
 use Rattle.swap.specs.declared.Exchange.{Exchange}
-use Rattle.swap.specs.declared.Spare.{Spare}
-use Rattle.swap.specs.declared.Spare.TheVariants.{Both}
+use Rattle.swap.specs.Spare.{Spare}
 
 -- ## At r's own bay
 
@@ -33,7 +32,7 @@ pub record SpareAsks (table empty : List ℕ) (u w : Bay) : Type 0 where
   pub empty_size : length empty ≡ words
 
 pub record SpareSays (table empty : List ℕ) (u w : Bay) (r : Spare) : Type 0 where
-  pub both : (x y : Numbered) → r ≡ Both x y → TwoSpare table empty u w x.0 y.0
+  pub both : (x y : Numbered) → r ≡ Some (x, y) → TwoSpare table empty u w x.0 y.0
 
 -- the exchange is noted, and the two have traded places
 pub record SwapBesideSays (r s : Carrier) (bays : Exchange) (p standing out p' standing' out' : List ℕ) (m : ℕ) : Type 0 where

@@ -7,15 +7,8 @@ ghost use Rattle.trade.specs.Trading.{TradeAsks};
 ghost use Rattle.seek.specs.FromBelow.{SeekAsks};
 ghost use Rattle.swap.specs.Swapping.{SpareAsks, SpareSays, SwapBesideSays, SwapSays};
 
-use acting::{Tally, Tried};
+use acting::Tally;
 use docket::{Bay, Carrier};
-
-// Two empty bays beside a junction, or that there are fewer.
-#[derive(Clone, Copy)]
-pub enum Spare {
-    Both(Bay, Bay),
-    Fewer,
-}
 
 // The bays of an exchange: the junction, the bay behind it where the follower stands, and the two that are kept, the lower one first.
 #[derive(Clone, Copy)]
@@ -35,27 +28,24 @@ fn swap_far(
     standing: &mut [u16],
     empty: &[u64],
     out: &mut [u64],
-) -> Tried
+) -> Option<Tally>
     requires ready { Ready table.now placement.old standing.old empty.now }
     requires seek_asks { SeekAsks r.0 s.0 table.now placement.old standing.old }
     ensures { SwapSays r.0 s.0
         table.now placement.old standing.old out.old
         placement.new standing.new empty.now out.new result }
 {
-    let found = seek::seek(table, r, s, placement, standing, empty, out);
-    let Tried::Done(done) = found else {
-        return Tried::Failed;
-    };
+    let done = seek::seek(table, r, s, placement, standing, empty, out)?;
     let m = Tally {
         crossings: done.crossings,
         parked: done.parked,
     };
     trade::trade(placement, standing, r, s);
-    Tried::Done(m)
+    Some(m)
 }
 
 // The two lowest empty neighbours of bay u other than w, if there are two.
-fn spare_bays(table: &[u64], u: Bay, w: Bay, empty: &[u64]) -> Spare
+fn spare_bays(table: &[u64], u: Bay, w: Bay, empty: &[u64]) -> Option<(Bay, Bay)>
     requires { SpareAsks table.now empty.now u.0 w.0 }
     ensures { SpareSays table.now empty.now u.0 w.0 result }
 {
@@ -64,14 +54,14 @@ fn spare_bays(table: &[u64], u: Bay, w: Bay, empty: &[u64]) -> Spare
     words::remove(&mut others, w.0 as usize);
     let x = words::lowest_common(&others, 0, empty, 0);
     if words::SPAN <= x {
-        return Spare::Fewer;
+        return None;
     }
     words::remove(&mut others, x);
     let y = words::lowest_common(&others, 0, empty, 0);
     if words::SPAN <= y {
-        return Spare::Fewer;
+        return None;
     }
-    Spare::Both(Bay(x as u16), Bay(y as u16))
+    Some((Bay(x as u16), Bay(y as u16)))
 }
 
 // Swap of r at the junction with s behind it by the exchange alone, the two kept bays being empty.
@@ -112,7 +102,7 @@ pub fn swap(
     standing: &mut [u16],
     empty: &[u64],
     out: &mut [u64],
-) -> Tried
+) -> Option<Tally>
     requires ready { Ready table.now placement.old standing.old empty.now }
     requires seek_asks { SeekAsks r.0 s.0 table.now placement.old standing.old }
     ensures { SwapSays r.0 s.0
@@ -124,7 +114,7 @@ pub fn swap(
     let u = Bay(placement[first]);
     let w = Bay(placement[second]);
     let spare = spare_bays(table, u, w, empty);
-    if let Spare::Both(x, y) = spare {
+    if let Some((x, y)) = spare {
         let bays = Exchange {
             junction: u,
             behind: w,
@@ -132,7 +122,7 @@ pub fn swap(
             higher: y,
         };
         let crossings = swap_beside(r, s, bays, placement, standing, out);
-        return Tried::Done(Tally {
+        return Some(Tally {
             crossings,
             parked: 0,
         });

@@ -5,7 +5,7 @@ ghost use Rattle.filing.specs.Filing.{file_of};
 ghost use Rattle.timed_handing.specs.Timed.{program_timed};
 ghost use Rattle.timed_handing.specs.Handing.{TimedSays};
 
-use docket::{Refusal, Verdict};
+use docket::Refusal;
 use print_room::CROSSINGS;
 
 // All that is printed, by an edition of slots, for two files, each with whether it could be read. The answer is how many bytes were written, or 8
@@ -18,14 +18,14 @@ pub fn program(
     listed: bool,
     shorten: bool,
     out: &mut [u8],
-) -> Verdict
+) -> Result<u64, Refusal>
     ensures { TimedSays (program_timed edition shorten (file_of mapped map.now) (file_of listed scenario.now))
         out.old result out.new }
 {
     let mut plan = [0u64; CROSSINGS];
     let fits = editions::known(edition);
     if !fits {
-        return timed_handing::hand(edition, Verdict::Denied(Refusal::Edition), &plan, out);
+        return timed_handing::hand(edition, Err(Refusal::Edition), &plan, out);
     }
     let answer = program::answer_for(shorten, map, mapped, scenario, listed, &mut plan);
     timed_handing::hand(edition, answer, &plan, out)

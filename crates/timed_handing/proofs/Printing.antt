@@ -1,5 +1,6 @@
 -- Why the timed print is that of the paper's answer, and is handed over whole or not at all: a plan's numbers read as its crossings, and what is
 -- counted without room is what is written with it.
+use Rattle.std.proofs.Common.{Err, Ok}
 use mathlib.Core.Path.{◌≡◌, ◌∙◌, ap}
 use mathlib.Core.Bool.{Bool, true, false}
 use mathlib.Core.Option.{Option}
@@ -21,8 +22,7 @@ use Rattle.paper.proofs.Tests.{by_cases}
 use Rattle.paper.proofs.Slotting as first
 use Rattle.docket.specs.declared.Refusal.{Refusal}
 use Rattle.docket.specs.declared.Refusal.TheVariants.{Room}
-use Rattle.docket.specs.declared.Verdict.{Verdict}
-use Rattle.docket.specs.declared.Verdict.TheVariants.{Granted, Denied}
+use Rattle.docket.specs.Verdict.{Verdict}
 use Rattle.docket.specs.Reading.{refusal_of}
 use Rattle.stores.specs.Writing.{Wrote}
 use Rattle.print_room.specs.Printout.{Handed}
@@ -48,35 +48,35 @@ slots-stand e list lent slots' m h w =
     (by_length e (crossings (take m list)) ∙ length-map (take m list) unpack ∙ length-take-le m list h)
 
 module _ {r : Verdict} {list : List ℕ} where
-  pub plan-prints : (e : ℕ) (m : ℕ) → r ≡ Granted m → {before after ss : List ℕ} {n : ℕ} → ss ≡ slots_by e (crossings (take m list))
+  pub plan-prints : (e : ℕ) (m : ℕ) → r ≡ Ok m → {before after ss : List ℕ} {n : ℕ} → ss ≡ slots_by e (crossings (take m list))
       → Wrote before 0 (print_timed ss (crossings (take m list))) after n → TimedPrints e r list before after n
   unfolding printed_timed
   plan-prints e m q {before} {after} {ss} {n} s w = record { prints = λ a h. rw (plan-is m q a h, ← s) w }
 
-  pub refusal-prints : (e : ℕ) (f : Refusal) → r ≡ Denied f → {before after : List ℕ} {n : ℕ} → Wrote before 0 (printed (refused (refusal_of f))) after n
+  pub refusal-prints : (e : ℕ) (f : Refusal) → r ≡ Err f → {before after : List ℕ} {n : ℕ} → Wrote before 0 (printed (refused (refusal_of f))) after n
       → TimedPrints e r list before after n
   unfolding printed_timed
   refusal-prints e f q w = record { prints = λ a h. rw (refusal_is f q a h) w }
 
 -- ## Whole or not at all
 
-says-room : (t : Text) (out : List ℕ) → length out < length t → TimedSays t out (Denied (Room (length t))) out
+says-room : (t : Text) (out : List ℕ) → length out < length t → TimedSays t out (Err (Room (length t))) out
 says-room t out h = let over = lt-ltb (length out) (length t) h in record { answers = rw over; leaves = rw over }
 
-says-whole : (t : Text) (out : List ℕ) → length t ≤ length out → TimedSays t out (Granted (length t)) (sets out 0 t)
+says-whole : (t : Text) (out : List ℕ) → length t ≤ length out → TimedSays t out (Ok (length t)) (sets out 0 t)
 says-whole t out h = let room = le-ltb (length out) (length t) h in record { answers = rw room; leaves = rw room }
 
 module _ {e : ℕ} {r : Verdict} {list nothing counted : List ℕ} {needed : ℕ} (p : TimedPrints e r list nothing counted needed) where
   needs : (a : Answer) → Handed r list a → needed ≡ length (printed_timed e a)
   needs a h = (p.prints a h).counted ∙ omega arith
 
-  pub hands-room : (out : List ℕ) → length out < needed → HandsOver e r list out (Denied (Room needed)) out
+  pub hands-room : (out : List ℕ) → length out < needed → HandsOver e r list out (Err (Room needed)) out
   hands-room out l = record {
     hands = λ a h. let n = needs a h in rw n (says-room (printed_timed e a) out (rw n at l));
   }
 
   pub hands-whole : (out : List ℕ) → needed ≤ length out → {after : List ℕ} {n : ℕ} → TimedPrints e r list out after n
-      → HandsOver e r list out (Granted needed) after
+      → HandsOver e r list out (Ok needed) after
   hands-whole out l {after} w = record {
     hands = λ a h. let n = needs a h in rw (n, (w.prints a h).left) (says-whole (printed_timed e a) out (rw n at l));
   }

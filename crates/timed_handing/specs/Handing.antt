@@ -6,7 +6,7 @@ use Rattle.paper.specs.Docket.{granted, denied, room}
 use Rattle.paper.specs.Answers.{Answer}
 use Rattle.paper.specs.Text.{Text}
 use Rattle.docket.specs.Reading.{verdict_of}
-use Rattle.docket.specs.declared.Verdict.{Verdict as Given}
+use Rattle.docket.specs.Verdict.{Verdict as Given}
 use Rattle.stores.specs.Writing.{Wrote}
 use Rattle.print_room.specs.Printout.{Handed}
 use Rattle.timed_handing.specs.Timed.{printed_timed}

@@ -13,10 +13,8 @@ fn lines(plan: &[u64], slots: &[u32], out: &mut [u8]) -> usize
     ensures { Wrote out.old 0 (lines_of slots.now plan.now) out.new result × (result ≤ 100 * length plan.now) }
 {
     let mut at = 0;
-    let mut i = 0;
-    while i < plan.len() {
-        at = timed_line::line(out, at, slots[i], docket::unpack(plan[i]));
-        i += 1;
+    for (i, x) in plan.iter().enumerate() {
+        at = timed_line::line(out, at, slots[i], docket::unpack(*x));
     }
     at
 }

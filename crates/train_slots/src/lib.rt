@@ -24,22 +24,21 @@ fn next_slot(x: Crossing, carriers: &mut [u32; BAYS], left: &mut [u32; BAYS]) ->
     let carrier = x.carrier.0 as usize;
     let from = x.from.0 as usize;
     let to = x.to.0 as usize;
-    let slot = slots::higher(carriers[carrier] + 1, left[to]);
+    let slot = (carriers[carrier] + 1).max(left[to]);
     carriers[carrier] = slot;
     left[from] = slot;
     slot
 }
 
-// Into the first places of `out`; what stands beyond the plan's length stays.
+// Into the first places of `out`; what stands beyond the plan's length stays. `slots::slot_pass` has the same loop over another rule: with the rule as a
+// closure, which changes both tables, it would be longer than both.
 pub fn train_pass(plan: &[u64], out: &mut [u32])
     requires { (length plan.now ≤ length out.old) × (length plan.now ≤ most_crossings) × Fits most_bays most_bays plan.now }
     ensures { out.new ≡ train_slots (crossings plan.now) ++ drop (length plan.now) out.old }
 {
     let mut carriers: [u32; BAYS] = [0; BAYS];
     let mut left: [u32; BAYS] = [0; BAYS];
-    let mut i = 0;
-    while i < plan.len() {
+    for i in 0..plan.len() {
         out[i] = next_slot(plans::crossing_at(plan, i), &mut carriers, &mut left);
-        i += 1;
     }
 }

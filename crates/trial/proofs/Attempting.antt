@@ -1,6 +1,7 @@
 -- Bring and clear are legal, so the bays that they name are small, and the follower is where bring left it: what is written after the
 -- exchange is the paper's undo of what is still in the list.
 -- Assumes nothing.
+use Rattle.std.proofs.Common.{None, Some}
 use mathlib.Core.Path.{◌≡◌, sym, ◌∙◌, ap, refl}
 use mathlib.Core.Bool.{true}
 use mathlib.Core.List.{List, [], ◌∷◌, ◌++◌, map, map-append}
@@ -30,10 +31,7 @@ use Rattle.clear_on.specs.Going.{Logged, AtJunction, Attempts, After, ClearsTwo}
 use Rattle.clear_on.proofs.Attempting.{logged_then}
 use Rattle.exchange.specs.Exchanging.{Noted}
 use Rattle.trial.specs.Trying.{Prepared, SetsUp, Led}
-use Rattle.acting.specs.declared.Tried.TheVariants.{Done}
-use Rattle.acting.specs.declared.Tried.TheVariants.{Failed}
-use Rattle.clear_on.specs.declared.Pair.TheVariants.{Missing}
-use Rattle.clear_on.specs.declared.Pair.{Pair}
+use Rattle.clear_on.specs.Pair.{Pair}
 
 pub too_few : (Y : Yard) (L M : Carrier) (v b : Bay) (done : Made) (kept : List Bay) → length kept < 2 → finish Y L M v b done kept ≡ none
 unfolding finish
@@ -41,7 +39,7 @@ too_few Y L M v b done [] h = refl
 too_few Y L M v b done (x ∷ []) h = refl
 too_few Y L M v b done (x ∷ y ∷ l) h = absurd (omega arith)
 
-pub not-brought : {Y : Yard} {L M : Carrier} {v : Bay} {path : List Bay} {p p' log : List ℕ} → bring Y L M path p ≡ none → SetsUp Y L M v path p p' log Missing
+pub not-brought : {Y : Yard} {L M : Carrier} {v : Bay} {path : List Bay} {p p' log : List ℕ} → bring Y L M path p ≡ none → SetsUp Y L M v path p p' log None
 unfolding trial_led
 not-brought e = record { both = λ x y m d. never (cc); missing = λ d. rw e }
 
@@ -66,10 +64,10 @@ set-up-all {Y} {L} {M} {v} xs made w l c f =
       missing = λ e. rw made (too_few Y L M v _ _ _ (k.missing (f.missing e)));
     }
 
-pub attempts-none : {o : Option Made} {log : List ℕ} → o ≡ none → Attempts o log Failed
+pub attempts-none : {o : Option Made} {log : List ℕ} → o ≡ none → Attempts o log None
 attempts-none e = record { fails = λ d. e; done = λ m d. never (cc) }
 
-pub attempts-some : {o : Option Made} {log : List ℕ} {m : Tally} {xs : Made} → o ≡ some xs → Logged xs log m → Attempts o log (Done m)
+pub attempts-some : {o : Option Made} {log : List ℕ} {m : Tally} {xs : Made} → o ≡ some xs → Logged xs log m → Attempts o log (Some m)
 attempts-some {m = m} {xs = xs} e l = record { fails = λ d. never (cc); done = λ k d. let same : m ≡ k = cc in (xs, e, rw same at l) }
 
 -- bays of a legal plan are small
@@ -176,5 +174,5 @@ module _ {Y : Yard} {L M : Carrier} {v : Bay} {path : List Bay} {n : ℕ} {p sta
       unfolding trial_led finish
       answer = rw (w.made, w.kept, same-bay)
 
-      pub attempted : Attempts (trial_led Y L M v path p) log₂ (Done (record { crossings = d + c.crossings; parked = c.parked }))
+      pub attempted : Attempts (trial_led Y L M v path p) log₂ (Some (record { crossings = d + c.crossings; parked = c.parked }))
       attempted = attempts-some answer (record { counted = counted; stored = stored; parks = w.logged.parks; few = omega (arith, w.logged.few) })

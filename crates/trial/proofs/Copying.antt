@@ -27,7 +27,7 @@ use Rattle.acting.proofs.FromBelow.{beside-path}
 use Rattle.clear_on.proofs.Attempting.{in-bays}
 use Rattle.clear_on.specs.Going.{Attempts}
 use Rattle.trial.specs.Trying.{Led, Near}
-use Rattle.acting.specs.declared.Tried.{Tried}
+use Rattle.acting.specs.Tried.{Tried}
 
 -- the code's part of a list from i on
 pub part : (l : List ℕ) (i : ℕ) → take (length l - i) (drop i l) ≡ drop i l

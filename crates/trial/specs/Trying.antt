@@ -1,6 +1,6 @@
 -- A trial in code: what is written of it, and what it is lent.
 -- Assumes nothing.
-use Rattle.std.specs.Prelude.{◌≡◌, true, List, [], ◌∷◌, ℕ, ◌≤◌, ◌<◌, length, get_or}
+use Rattle.std.specs.Prelude.{◌≡◌, true, List, [], ◌∷◌, ℕ, ◌≤◌, ◌<◌, length, get_or, None, Some}
 use Rattle.std.proofs.Math.Option.{Option, none, some}
 use Rattle.paper.specs.Basics.{In}
 use Rattle.paper.specs.Path.{nearest_first, shortest_path}
@@ -14,10 +14,9 @@ use Rattle.acting.specs.Acting.{Tabled, nothing, Within}
 use Rattle.bring.specs.Bringing.{Coupled}
 use Rattle.clear_on.specs.Going.{Logged, Attempts, PairBy}
 use Rattle.attempts.specs.declared.Lead.{Lead}
-use Rattle.clear_on.specs.declared.Pair.TheVariants.{Both, Missing}
-use Rattle.clear_on.specs.declared.Pair.{Pair}
+use Rattle.clear_on.specs.Pair.{Pair}
 use Rattle.acting.specs.declared.Tally.{Tally}
-use Rattle.acting.specs.declared.Tried.{Tried}
+use Rattle.acting.specs.Tried.{Tried}
 use Rattle.docket.specs.declared.Bay.{Bay as Numbered}
 use Rattle.trial.specs.declared.Trial.{Trial}
 
@@ -32,8 +31,8 @@ pub record Prepared (Y : Yard) (L M : Carrier) (v : Bay) (path : List Bay) (p p'
   pub moved : p' ≡ after (after p brought.moves) (clear_once Y v (bay_of (after p brought.moves) M) (after p brought.moves)).made.moves
 
 pub record SetsUp (Y : Yard) (L M : Carrier) (v : Bay) (path : List Bay) (p p' log : List ℕ) (r : Pair) : Type 0 where
-  pub both : (x y : Numbered) (m : Tally) → r ≡ Both x y m → Prepared Y L M v path p p' log x.0 y.0 m
-  pub missing : r ≡ Missing → trial_led Y L M v path p ≡ none
+  pub both : (x y : Numbered) (m : Tally) → r ≡ Some (x, y, m) → Prepared Y L M v path p p' log x.0 y.0 m
+  pub missing : r ≡ None → trial_led Y L M v path p ≡ none
 
 -- ## The whole trial: logged as an attempt is
 

@@ -7,12 +7,10 @@ ghost use Rattle.paper.specs.Basics.{◌and◌};
 ghost use Rattle.acting.specs.Acting.{Ready};
 ghost use Rattle.trial.specs.Trying.{neighbour_leads, carrier_leads, LedAsks, SetUpSays, LedSays, TrialAsks, TrialOnAsks, TrialOnSays, TrialSays};
 
-use acting::{Tally, Tried};
+use acting::Tally;
 use attempts::Lead;
 use bring::Couple;
-use clear_on::Pair;
 use docket::{Bay, Carrier};
-use rings::Path;
 
 // The swap of a carrier with its neighbour, tried at a junction.
 #[derive(Clone, Copy)]
@@ -31,39 +29,18 @@ fn set_up(
     standing: &mut [u16],
     empty: &mut [u64],
     out: &mut [u64],
-) -> Pair
+) -> Option<(Bay, Bay, Tally)>
     requires ready { Ready table.now placement.old standing.old empty.old }
     requires led_asks { LedAsks lead path.now placement.old standing.old }
     ensures { SetUpSays lead path.now
         table.now placement.old standing.old placement.new out.new result }
 {
-    let brought = bring::bring(table, path, lead.couple, placement, standing, empty, out);
-    let Tried::Done(made) = brought else {
-        return Pair::Missing;
-    };
+    let made = bring::bring(table, path, lead.couple, placement, standing, empty, out)?;
     let follower = lead.couple.follower.0 as usize;
     let b = Bay(placement[follower]);
     let from = acting::place_in(out, made.crossings);
     let cleared = clear_on::clear_two(table, lead, b, placement, standing, empty, &mut out[from..]);
     clear_on::after(made, cleared)
-}
-
-fn lower(x: Bay, y: Bay) -> Bay
-    ensures { result.0 ≡ min x.0 y.0 }
-{
-    if x.0 < y.0 {
-        return x;
-    }
-    y
-}
-
-fn higher(x: Bay, y: Bay) -> Bay
-    ensures { result.0 ≡ max x.0 y.0 }
-{
-    if x.0 < y.0 {
-        return y;
-    }
-    x
 }
 
 // A trial, where leader and follower are known, on a placement that is used up.
@@ -75,16 +52,13 @@ fn attempt_on(
     standing: &mut [u16],
     empty: &mut [u64],
     out: &mut [u64],
-) -> Tried
+) -> Option<Tally>
     requires ready { Ready table.now placement.old standing.old empty.old }
     requires led_asks { LedAsks lead path.now placement.old standing.old }
     ensures { LedSays lead path.now
         table.now placement.old standing.old out.new result }
 {
-    let ready = set_up(table, path, lead, placement, standing, empty, out);
-    let Pair::Both(x, y, c) = ready else {
-        return Tried::Failed;
-    };
+    let (x, y, c) = set_up(table, path, lead, placement, standing, empty, out)?;
     let l = lead.couple.leader;
     let m = lead.couple.follower;
     let follower = m.0 as usize;
@@ -92,10 +66,12 @@ fn attempt_on(
     let b = Bay(behind);
     let made = c.crossings;
     let parked = c.parked;
-    let d = exchange::exchange(out, made, l, m, lead.junction, b, lower(x, y), higher(x, y));
+    let lower = Bay(x.0.min(y.0));
+    let higher = Bay(x.0.max(y.0));
+    let d = exchange::exchange(out, made, l, m, lead.junction, b, lower, higher);
     undo::undo(out, 0, made, d, l, m);
     let crossings = d + made;
-    Tried::Done(Tally { crossings, parked })
+    Some(Tally { crossings, parked })
 }
 
 // The same on copies.
@@ -107,7 +83,7 @@ fn attempt(
     standing: &[u16],
     empty: &[u64],
     out: &mut [u64],
-) -> Tried
+) -> Option<Tally>
     requires ready { Ready table.now placement.now standing.now empty.now }
     requires led_asks { LedAsks lead path.now placement.now standing.now }
     ensures { LedSays lead path.now
@@ -174,7 +150,7 @@ pub fn try_on(
     standing: &[u16],
     empty: &[u64],
     out: &mut [u64],
-) -> Tried
+) -> Option<Tally>
     requires ready { Ready table.now placement.now standing.now empty.now }
     requires trial_on_asks { TrialOnAsks trial path.now placement.now standing.now }
     ensures { TrialOnSays trial path.now
@@ -198,7 +174,7 @@ fn try_along(
     standing: &[u16],
     empty: &[u64],
     out: &mut [u64],
-) -> Tried
+) -> Option<Tally>
     requires ready { Ready table.now placement.now standing.now empty.now }
     requires trial_asks { TrialAsks trial placement.now standing.now }
     ensures { TrialSays trial
@@ -209,9 +185,7 @@ fn try_along(
     let n = standing.len();
     let none = [0u64; words::WORDS];
     let mut path = [0u16; words::SPAN];
-    let Path::First(k) = ways::path_between(table, n, &none, u, trial.junction, &mut path) else {
-        return Tried::Failed;
-    };
+    let k = ways::path_between(table, n, &none, u, trial.junction, &mut path)?;
     try_on(table, &path[..k], trial, placement, standing, empty, out)
 }
 
@@ -223,7 +197,7 @@ pub fn try_at(
     standing: &[u16],
     empty: &[u64],
     out: &mut [u64],
-) -> Tried
+) -> Option<Tally>
     requires ready { Ready table.now placement.now standing.now empty.now }
     requires trial_asks { TrialAsks trial placement.now standing.now }
     ensures { TrialSays trial

@@ -46,25 +46,14 @@ fn turn(l: Carrier, m: Carrier, number: u64) -> u64
     })
 }
 
-// The number goes to its place in the list where the list is so long.
-pub fn put(out: &mut [u64], at: usize, number: u64)
-    ensures { out.new ≡ set out.old at number }
-{
-    if at < out.len() {
-        out[at] = number;
-    }
-}
-
 // Undo: the crossings from `from` on, as many as `many`, backwards and turned, with l and m traded, from `at` on.
 pub fn undo(out: &mut [u64], from: usize, many: usize, at: usize, l: Carrier, m: Carrier)
     requires many_bound { from + many ≤ at }
     requires many_bound_2 { at + many < room_crossing }
     ensures { UndoSays l.0 m.0 from many at out.old out.new }
 {
-    let mut j = 0;
-    while j < many {
+    for j in 0..many {
         let number = stored_at(out, from + (many - 1 - j));
-        put(out, at + j, turn(l, m, number));
-        j += 1;
+        stores::store(out, at + j, turn(l, m, number));
     }
 }

@@ -23,7 +23,7 @@ use Rattle.choice.specs.Taking.{Taken}
 use Rattle.choice.proofs.Taking.{rather-paper}
 use Rattle.rings.specs.Search.{Shown}
 use Rattle.rings.specs.Ways.{WayFound}
-use Rattle.rings.specs.declared.Way.{Way}
+use Rattle.rings.specs.Way.{Way}
 use Rattle.moving.specs.Placed.{Placed, Played, Acted, CanShift}
 use Rattle.vacate.specs.Answer.{Vacates, vacating, bay_filled, count_after, filled}
 use Rattle.vacate.specs.declared.Vacated.{Vacated}

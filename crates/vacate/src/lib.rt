@@ -9,8 +9,6 @@ ghost use Rattle.lookup.specs.Told.{LookupAsks};
 ghost use Rattle.vacate.specs.Answer.{VacateAsks, VacateSays};
 
 use docket::Bay;
-use lookup::Known;
-use rings::Way;
 
 // The bay was empty; the bay that was filled, with the count of crossings made; or nothing could be done.
 #[derive(Clone, Copy)]
@@ -22,7 +20,14 @@ pub enum Vacated {
 
 // The shortest path from x to the nearest empty bay, through bays not held. A table with levels is that of a crowded yard: there the way is
 // looked up, and searched for ring by ring only where the levels do not tell it.
-fn way_out(table: &[u64], n: usize, held: &[u64], x: Bay, empty: &[u64], path: &mut [u16]) -> Way
+fn way_out(
+    table: &[u64],
+    n: usize,
+    held: &[u64],
+    x: Bay,
+    empty: &[u64],
+    path: &mut [u16],
+) -> Option<(Bay, usize)>
     requires { LookupAsks n table.now held.now empty.now path.old x.0 }
     ensures { WaySays n table.now held.now empty.now x.0 path.new result }
 {
@@ -30,8 +35,8 @@ fn way_out(table: &[u64], n: usize, held: &[u64], x: Bay, empty: &[u64], path: &
         return ways::way_to_nearest(table, n, held, x, empty, path);
     }
     let known = lookup::way(table, n, held, x, empty, path);
-    if let Known::To(e, m) = known {
-        return Way::To(e, m);
+    if let Some((e, m)) = known {
+        return Some((e, m));
     }
     rings::way_to_nearest(table, n, held, x, empty, path)
 }
@@ -54,7 +59,7 @@ fn fill_nearest(
 {
     let n = standing.len();
     let mut path = [0u16; words::SPAN];
-    let Way::To(e, m) = way_out(table, n, held, x, empty, &mut path) else {
+    let Some((e, m)) = way_out(table, n, held, x, empty, &mut path) else {
         return Vacated::Failed;
     };
     Vacated::Filled(

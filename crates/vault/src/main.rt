@@ -2,7 +2,7 @@
 // it without its there-and-back trips.
 #![tactic(auto)]
 
-ghost use Rattle.std.specs.Prelude.{◌≡◌, ◌+◌, ◌≤◌, length};
+ghost use Rattle.std.specs.Prelude.{◌≡◌, ◌≤◌, length, IfSome};
 ghost use Rattle.paper.specs.Text.{text, same};
 ghost use Rattle.stores.specs.Writing.{Wrote};
 ghost use Rattle.filing.specs.Filing.{file_of};
@@ -17,70 +17,24 @@ use std::{fs, io};
 // As many bytes as the longest path that the system opens, and its end.
 const PATH_BYTES: usize = 4096;
 
-// How many of a file's first bytes are in the buffer, and whether it could be read. No contract says which bytes these are: what a call of the
+// How many of the file's first bytes are in the buffer: as many as it holds. None where it cannot be read: a directory, a file that is not there,
+// one whose read fails, or one whose path is not UTF-8, since std names no such file. No contract says which bytes these are: what a call of the
 // operating system puts into a buffer is not known to the proof. So the promises begin with the bytes read, in `print`, and end with the bytes
 // handed to the operating system.
-#[derive(Clone, Copy)]
-struct Loaded {
-    bytes: usize,
-    readable: bool,
-}
-
-// One more read into the buffer: 0 bytes at the file's end.
-fn read_on(file: &mut impl Read, buffer: &mut [u8], at: usize) -> Loaded
-    requires { at ≤ length buffer.old }
-    ensures { at + result.bytes ≤ length buffer.new }
+fn load(rt: &impl Files, path: &[u8], buffer: &mut [u8]) -> Option<usize>
+    ensures { IfSome result (λ n. n ≤ length buffer.new) }
 {
-    match file.read(&mut buffer[at..]) {
-        Ok(n) => Loaded {
-            bytes: n,
-            readable: true,
-        },
-        Err(_) => Loaded {
-            bytes: 0,
-            readable: false,
-        },
-    }
-}
-
-// As much of the file as the buffer holds.
-fn fill(file: &mut impl Read, buffer: &mut [u8]) -> Loaded
-    ensures { result.bytes ≤ length buffer.new }
-{
+    let name = str::from_utf8(path).ok()?;
+    let mut file = fs::open(rt, name).ok()?;
     let mut done = 0;
     while done < buffer.len() {
-        let more = read_on(file, buffer, done);
-        if more.bytes == 0 {
-            return Loaded {
-                bytes: done,
-                readable: more.readable,
-            };
+        let more = file.read(&mut buffer[done..]).ok()?;
+        if more == 0 {
+            break;
         }
-        done += more.bytes;
+        done += more;
     }
-    Loaded {
-        bytes: done,
-        readable: true,
-    }
-}
-
-// A directory and a file that is not there can't be read. Nor can one whose path is not UTF-8: std names no such file.
-fn load(rt: &impl Files, path: &[u8], buffer: &mut [u8]) -> Loaded
-    ensures { result.bytes ≤ length buffer.new }
-{
-    let Ok(name) = str::from_utf8(path) else {
-        return Loaded {
-            bytes: 0,
-            readable: false,
-        };
-    };
-    let Ok(mut file) = fs::open(rt, name) else {
-        return Loaded {
-            bytes: 0,
-            readable: false,
-        };
-    };
-    fill(&mut file, buffer)
+    Some(done)
 }
 
 // All that is printed for two files, each with whether it could be read: what the paper prints; with the flag as first word, with the plan shortened.
@@ -114,14 +68,14 @@ fn answer(
     let mut out = [0u8; print_room::PRINT_BYTES];
     let first = load(rt, map_path, &mut map);
     let second = load(rt, scenario_path, &mut scenario);
-    let m = first.bytes;
-    let s = second.bytes;
+    let m = first.unwrap_or(0);
+    let s = second.unwrap_or(0);
     let n = print(
         word,
         &map[..m],
-        first.readable,
+        first.is_some(),
         &scenario[..s],
-        second.readable,
+        second.is_some(),
         &mut out,
     );
     rt.write_all(&out[..n])

@@ -1,6 +1,7 @@
 -- Ring after ring, what is taken of the wanted bays in the first ring that has one is the nearest, and the path back from it is the paper's.
 -- Where a ring leads to nothing new, there is none.
 -- Assumes nothing.
+use Rattle.std.proofs.Common.{None, Some}
 use mathlib.Core.Path.{◌≡◌, refl, sym, ap, ◌∙◌}
 use mathlib.Core.Bool.{Bool, true, false, not}
 use mathlib.Core.List.{List, [], ◌∷◌}
@@ -26,9 +27,8 @@ use Rattle.words.proofs.Sets.{row_zero}
 use Rattle.choice.specs.Taking.{Rowed, Taken}
 use Rattle.choice.proofs.Taking.{taken-chosen}
 use Rattle.rings.specs.Search.{Shown, ring_on}
-use Rattle.rings.specs.Ways.{WayFound, PathFound}
-use Rattle.rings.specs.declared.Way.TheVariants.{To, NoWay}
-use Rattle.rings.specs.declared.Path.TheVariants.{First, NoPath}
+use Rattle.rings.specs.Ways.{WayFound, PathFound, path_along}
+use Rattle.rings.specs.Way.{Way}
 use Rattle.rings.proofs.Searching.{in-yard}
 use Rattle.rings.proofs.Reading.{way-none}
 use Rattle.rings.proofs.Between.{shortest-far}
@@ -60,7 +60,7 @@ module _ {n : ℕ} {table held : List ℕ} (s : Shown n table held) (most : n �
       (seen' met' before' : List ℕ) (r : ℕ) (p : Passed n table held x met count seen' met' before' count r) (some_left : done < count) (room : n ≤ length met') where
     -- ## Nothing new
 
-    pub way-nowhere : r ≡ count → (q : Bay → Bool) → ((b : ℕ) → b < n → mem wanted b ≡ q b) → (path : List ℕ) → WayFound s x q path NoWay
+    pub way-nowhere : r ≡ count → (q : Bay → Bool) → ((b : ℕ) → b < n → mem wanted b ≡ q b) → (path : List ℕ) → WayFound s x q path None
     way-nowhere e q w path =
         let rs = rings s.yard s.bays x in
         way-none s x q path (sym (nearest-none s.yard s.bays x q (λ b i.
@@ -118,7 +118,7 @@ module _ {n : ℕ} {table held : List ℕ} (s : Shown n table held) (most : n �
           }
 
           pub way-found : e < span → (q : Bay → Bool) → ((b : ℕ) → b < n → mem wanted b ≡ q b) → (room : List ℕ) (bay : Held) → bay.0 ≡ e
-              → take (d + 1 + 1) room ≡ back before' (d + 1) e [] → WayFound s x q room (To bay (d + 1 + 1))
+              → take (d + 1 + 1) room ≡ back before' (d + 1) e [] → WayFound s x q room (Some (bay, (d + 1 + 1)))
           way-found hit q w room bay same path =
               let is-wanted : mem wanted e ≡ true = and_left _ _ (sym (is_free e hit) ∙ and_right _ _ (l.hit hit)) in
               let queued = in-queue e hit (l.hit hit) in
@@ -141,7 +141,7 @@ module _ {n : ℕ} {table held : List ℕ} (s : Shown n table held) (most : n �
   -- ## x itself
 
   pub way-here : (wanted : List ℕ) → mem wanted x ≡ true → (q : Bay → Bool) → ((b : ℕ) → b < n → mem wanted b ≡ q b) → (room : List ℕ) (bay : Held) → bay.0 ≡ x
-      → take 1 room ≡ x ∷ [] → WayFound s x q room (To bay 1)
+      → take 1 room ≡ x ∷ [] → WayFound s x q room (Some (bay, 1))
   way-here wanted hit q w room bay same path =
       let x-in : In x (ring_on s x 0) = rw (first-ring s x hx) (In-head x []) in
       record {
@@ -159,7 +159,7 @@ module _ {n : ℕ} {table held : List ℕ} (s : Shown n table held) (most : n �
   abbrev pub is_goal : Bay → Bool
   is_goal b = eqb b v
 
-  pub path-first : (e : Held) (m : ℕ) → WayFound s u is_goal room (To e m) → PathFound s u v room (First m)
+  path-first : (e : Held) (m : ℕ) → WayFound s u is_goal room (Some (e, m)) → PathFound s u v room (Some m)
   unfolding path_between
   path-first e m f =
       let g = nearest-found s.yard s.bays u is_goal (sym f.nearest) in
@@ -169,7 +169,7 @@ module _ {n : ℕ} {table held : List ℕ} (s : Shown n table held) (most : n �
       let u-in : In u (nearest_first s.yard s.bays v) = reached-sym s.yard s.bays u v (free_of s most u hu u-free) v-in in
       record { fits = f.fits; same = rw u-in (ap some (f.path v (ap some same))) }
 
-  pub path-none : WayFound s u is_goal room NoWay → PathFound s u v room NoPath
+  path-none : WayFound s u is_goal room None → PathFound s u v room None
   unfolding path_between
   path-none f =
       let out : elem u (nearest_first s.yard s.bays v) ≡ false =
@@ -179,3 +179,7 @@ module _ {n : ℕ} {table held : List ℕ} (s : Shown n table held) (most : n �
       not-both (eq-eqb v v refl) (none-nearest s.yard s.bays u is_goal (sym f.nearest) v v-in))
       (λ o. o) in
       record { fits = omega arith; same = rw out }
+
+  pub path-of : (r : Way) → WayFound s u is_goal room r → PathFound s u v room (path_along r)
+  path-of (Some (e, m)) f = path-first e m f
+  path-of None f = path-none f

@@ -8,7 +8,6 @@ ghost use Rattle.rings.specs.Ways.{PathAsks, PathSays, WayAsks, WaySays};
 ghost use Rattle.ways.specs.Few.{few, by_queue, ByQueueAsks, PathByQueueAsks};
 
 use docket::Bay;
-use rings::{Path, Way};
 
 // Whether fewer than four rails lead to the bay: then a queue is faster than rings.
 fn few_rails(table: &[u64], a: usize) -> bool
@@ -27,14 +26,14 @@ fn one_by_one(
     x: Bay,
     wanted: &[u64],
     path: &mut [u16],
-) -> Way
+) -> Option<(Bay, usize)>
     requires { WayAsks n table.now held.now wanted.now path.old x.0 }
     ensures { WaySays n table.now held.now wanted.now x.0 path.new result }
 {
     let middle = x.0 as usize;
     if words::is_in(wanted, middle) {
         path[0] = x.0;
-        return Way::To(x, 1);
+        return Some((x, 1));
     }
     let mut seen = [0u64; words::WORDS];
     let mut free = [0u64; words::WORDS];
@@ -46,21 +45,20 @@ fn one_by_one(
     path[0] = x.0;
     let mut done = 0;
     let mut count = 1;
-    let mut d = 0;
-    loop {
+    for d in 0..n {
         let end = count;
         count = queue::pass(table, n, done, end, &mut seen, path, &mut before);
         if count == end {
-            return Way::NoWay;
+            break;
         }
         done = end;
-        d += 1;
         let e = choice::common(table, &seen, 0, &free, 0);
         if e < words::SPAN {
-            queue::trace(&before, e, d, path);
-            return Way::To(Bay(e as u16), d + 1);
+            queue::trace(&before, e, d + 1, path);
+            return Some((Bay(e as u16), d + 2));
         }
     }
+    None
 }
 
 // The shortest path from x to the nearest wanted bay, through bays not held.
@@ -71,7 +69,7 @@ pub fn way_to_nearest(
     x: Bay,
     wanted: &[u64],
     path: &mut [u16],
-) -> Way
+) -> Option<(Bay, usize)>
     requires { WayAsks n table.now held.now wanted.now path.old x.0 }
     ensures { WaySays n table.now held.now wanted.now x.0 path.new result }
 {
@@ -82,16 +80,20 @@ pub fn way_to_nearest(
 }
 
 // The shortest path from u to v, neither of them held, by a queue.
-fn path_by_queue(table: &[u64], n: usize, held: &[u64], u: Bay, v: Bay, path: &mut [u16]) -> Path
+fn path_by_queue(
+    table: &[u64],
+    n: usize,
+    held: &[u64],
+    u: Bay,
+    v: Bay,
+    path: &mut [u16],
+) -> Option<usize>
     requires { PathByQueueAsks n table.now held.now path.old u.0 v.0 }
     ensures { PathSays n table.now held.now u.0 v.0 path.new result }
 {
     let mut goal = [0u64; words::WORDS];
     words::alone(&mut goal, v.0 as usize);
-    let Way::To(_, m) = one_by_one(table, n, held, u, &goal, path) else {
-        return Path::NoPath;
-    };
-    Path::First(m)
+    rings::path_along(one_by_one(table, n, held, u, &goal, path))
 }
 
 // Whether a queue serves from u to v: few rails lead to both, and neither is held.
@@ -99,20 +101,18 @@ fn by_queue(table: &[u64], held: &[u64], u: usize, v: usize) -> bool
     requires { ByQueueAsks table.now held.now u v }
     ensures { result ≡ by_queue table.now held.now u v }
 {
-    if !few_rails(table, u) {
-        return false;
-    }
-    if !few_rails(table, v) {
-        return false;
-    }
-    if words::is_in(held, u) {
-        return false;
-    }
-    !words::is_in(held, v)
+    few_rails(table, u) && few_rails(table, v) && !words::is_in(held, u) && !words::is_in(held, v)
 }
 
 // The shortest path from u to v through bays not held.
-pub fn path_between(table: &[u64], n: usize, held: &[u64], u: Bay, v: Bay, path: &mut [u16]) -> Path
+pub fn path_between(
+    table: &[u64],
+    n: usize,
+    held: &[u64],
+    u: Bay,
+    v: Bay,
+    path: &mut [u16],
+) -> Option<usize>
     requires { PathAsks n table.now held.now path.old u.0 v.0 }
     ensures { PathSays n table.now held.now u.0 v.0 path.new result }
 {

@@ -11,9 +11,9 @@ use lib.Count.{count_trailing_zeros, trailing_le, trailing_of_zero}
 use lib.ListN.{get_or}
 use Rattle.paper.specs.Basics.{◌and◌, ◌or◌}
 use Rattle.paper.proofs.Tests.{not-both, or_left, or_right, or_cases}
-use Rattle.words.specs.Sets.{on, mem, mem_row, span, any_below, reaches, Beside, Kept}
+use Rattle.words.specs.Sets.{on, mem, mem_row, span, any_below, reaches, Beside}
 use Rattle.words.proofs.Bits.{on-lowest, on_below, later, later-on, later-lowest}
-use Rattle.words.proofs.Sets.{word-bit, row_zero}
+use Rattle.words.proofs.Sets.{word-bit}
 
 -- two tests that imply each other are equal
 pub equal-tests : (a b : Bool) → (a ≡ true → b ≡ true) → (b ≡ true → a ≡ true) → a ≡ b
@@ -50,10 +50,6 @@ module _ (table set : List ℕ) where
   -- nothing is beside no bay
   pub beside_none : (found : List ℕ) → ((x : ℕ) → mem found x ≡ false) → Beside table set found 0
   beside_none found h = record { same = λ b k. h b ∙ unfold any_below in refl }
-
-  -- what is kept as a set is what was found
-  pub beside-kept : (found sets sets' : List ℕ) (a : ℕ) → Kept sets 0 found sets' → Beside table set found a → Beside table set sets' a
-  beside-kept found sets sets' a k s = record { same = λ b h. sym (row_zero sets' b) ∙ k.row b h ∙ s.same b h }
 
   -- bays that are not in the set add nothing
   pub beside-skip : (found : List ℕ) (a a' : ℕ) → a ≤ a' → ((k : ℕ) → a ≤ k → k < a' → mem set k ≡ false) → Beside table set found a → Beside table set found a'

@@ -15,11 +15,7 @@ pub const SPAN: usize = paper::BAYS;
 pub fn clear(ws: &mut [u64])
     ensures { (x : ℕ) → mem ws.new x ≡ false }
 {
-    let mut i = 0;
-    while i < ws.len() {
-        ws[i] = 0;
-        i += 1;
-    }
+    ws.fill(0);
 }
 
 // Bay x joins the set.
@@ -27,9 +23,7 @@ pub fn add(ws: &mut [u64], x: usize)
     requires { x / 64 < length ws.old }
     ensures { (y : ℕ) → mem ws.new y ≡ mem ws.old y or eqb y x }
 {
-    let i = x / 64;
-    let b = x % 64;
-    ws[i] = ws[i] | (1u64 << b);
+    ws[x / 64] |= 1 << (x % 64);
 }
 
 // Bay x leaves the set.
@@ -37,19 +31,14 @@ pub fn remove(ws: &mut [u64], x: usize)
     requires { x / 64 < length ws.old }
     ensures { (y : ℕ) → mem ws.new y ≡ mem ws.old y and not (eqb y x) }
 {
-    let i = x / 64;
-    let b = x % 64;
-    ws[i] = ws[i] & !(1u64 << b);
+    ws[x / 64] &= !(1 << (x % 64));
 }
 
 // The bit of bay x, as it stands in word i.
 fn bit_of(x: usize, i: usize) -> u64
     ensures { result ≡ bit_of x i }
 {
-    if x / 64 == i {
-        return 1u64 << (x % 64);
-    }
-    0
+    if x / 64 == i { 1 << (x % 64) } else { 0 }
 }
 
 // Bay x alone is in the set. Every word is made in turn: so the compiler holds a small set in registers, while one word written by its
@@ -58,10 +47,8 @@ pub fn alone(ws: &mut [u64], x: usize)
     requires { (length ws.old ≡ words) × (x < span) }
     ensures { (y : ℕ) → mem ws.new y ≡ eqb y x }
 {
-    let mut i = 0;
-    while i < WORDS {
+    for i in 0..WORDS {
         ws[i] = bit_of(x, i);
-        i += 1;
     }
 }
 
@@ -70,10 +57,8 @@ pub fn join(ws: &mut [u64], x: usize)
     requires { (length ws.old ≡ words) × (x < span) }
     ensures { (y : ℕ) → mem ws.new y ≡ mem ws.old y or eqb y x }
 {
-    let mut i = 0;
-    while i < WORDS {
-        ws[i] = ws[i] | bit_of(x, i);
-        i += 1;
+    for i in 0..WORDS {
+        ws[i] |= bit_of(x, i);
     }
 }
 
@@ -82,10 +67,8 @@ pub fn replace(ws: &mut [u64], x: usize, y: usize)
     requires { (length ws.old ≡ words) × (x < span) × (y < span) }
     ensures { (b : ℕ) → mem ws.new b ≡ (mem ws.old b and not (eqb b x)) or eqb b y }
 {
-    let mut i = 0;
-    while i < WORDS {
+    for i in 0..WORDS {
         ws[i] = (ws[i] & !bit_of(x, i)) | bit_of(y, i);
-        i += 1;
     }
 }
 
@@ -94,8 +77,7 @@ pub fn is_in(ws: &[u64], x: usize) -> bool
     requires { x / 64 < length ws.now }
     ensures { result ≡ mem ws.now x }
 {
-    let i = x / 64;
-    (ws[i] >> (x % 64)) % 2 == 1
+    (ws[x / 64] >> (x % 64)) % 2 == 1
 }
 
 // The bays of b leave a.
@@ -103,10 +85,8 @@ pub fn minus(a: &mut [u64], b: &[u64])
     requires { length b.now ≡ length a.old }
     ensures { (x : ℕ) → mem a.new x ≡ mem a.old x and not (mem b.now x) }
 {
-    let mut i = 0;
-    while i < a.len() {
-        a[i] = a[i] & !b[i];
-        i += 1;
+    for i in 0..a.len() {
+        a[i] &= !b[i];
     }
 }
 
@@ -115,11 +95,9 @@ pub fn count(ws: &[u64]) -> u64
     requires { 64 * length ws.now < 2 ^ 64 }
     ensures { result ≡ length (members ws.now) }
 {
-    let mut n: u64 = 0;
-    let mut w = 0;
-    while w < ws.len() {
-        n += u64::count_ones(ws[w]) as u64;
-        w += 1;
+    let mut n = 0;
+    for w in ws {
+        n += u64::from(w.count_ones());
     }
     n
 }
@@ -129,10 +107,8 @@ pub fn join_row(acc: &mut [u64], table: &[u64], a: usize)
     requires { (length acc.old ≡ words) × (a * words + words ≤ length table.now) }
     ensures { (b : ℕ) → b < span → mem acc.new b ≡ mem acc.old b or mem_row table.now a b }
 {
-    let mut i = 0;
-    while i < WORDS {
-        acc[i] = acc[i] | table[a * WORDS + i];
-        i += 1;
+    for i in 0..WORDS {
+        acc[i] |= table[a * WORDS + i];
     }
 }
 
@@ -141,12 +117,10 @@ pub fn settle(next: &[u64], seen: &mut [u64], ring: &mut [u64])
     requires { (length next.now ≡ words) × (length seen.old ≡ words) × (length ring.old ≡ words) }
     ensures { Settled next.now seen.old seen.new ring.new }
 {
-    let mut i = 0;
-    while i < WORDS {
+    for i in 0..WORDS {
         let fresh = next[i] & !seen[i];
-        seen[i] = seen[i] | fresh;
+        seen[i] |= fresh;
         ring[i] = fresh;
-        i += 1;
     }
 }
 
@@ -155,10 +129,8 @@ pub fn keep(rows: &mut [u64], d: usize, ring: &[u64])
     requires { (length ring.now ≡ words) × (d * words + words ≤ length rows.old) }
     ensures { Kept rows.old d ring.now rows.new }
 {
-    let mut i = 0;
-    while i < WORDS {
+    for i in 0..WORDS {
         rows[d * WORDS + i] = ring[i];
-        i += 1;
     }
 }
 
@@ -167,7 +139,7 @@ fn lowest_of(i: usize, word: u64) -> usize
     requires { i < words }
     ensures { result ≡ i * 64 + count_trailing_zeros 64 word }
 {
-    i * 64 + wide(u64::trailing_zeros(word))
+    i * 64 + word.trailing_zeros() as usize
 }
 
 // The lowest bay that is in row a of s and in row b of t; SPAN where there is none.
@@ -175,13 +147,11 @@ pub fn lowest_common(s: &[u64], a: usize, t: &[u64], b: usize) -> usize
     requires { (a * words + words ≤ length s.now) × (b * words + words ≤ length t.now) }
     ensures { Lowest (λ x. mem_row s.now a x and mem_row t.now b x) 0 span result }
 {
-    let mut i = 0;
-    while i < WORDS {
+    for i in 0..WORDS {
         let both = s[a * WORDS + i] & t[b * WORDS + i];
         if both != 0 {
             return lowest_of(i, both);
         }
-        i += 1;
     }
     SPAN
 }
@@ -191,11 +161,9 @@ pub fn meets(s: &[u64], a: usize, t: &[u64], b: usize) -> bool
     requires { (a * words + words ≤ length s.now) × (b * words + words ≤ length t.now) }
     ensures { result ≡ any_below (λ x. mem_row s.now a x and mem_row t.now b x) span }
 {
-    let mut any: u64 = 0;
-    let mut i = 0;
-    while i < WORDS {
-        any = any | (s[a * WORDS + i] & t[b * WORDS + i]);
-        i += 1;
+    let mut any = 0;
+    for i in 0..WORDS {
+        any |= s[a * WORDS + i] & t[b * WORDS + i];
     }
     any != 0
 }
@@ -205,11 +173,9 @@ pub fn is_empty(ws: &[u64]) -> bool
     requires { length ws.now ≡ words }
     ensures { result ≡ not (any_below (mem ws.now) span) }
 {
-    let mut any: u64 = 0;
-    let mut i = 0;
-    while i < WORDS {
-        any = any | ws[i];
-        i += 1;
+    let mut any = 0;
+    for i in 0..WORDS {
+        any |= ws[i];
     }
     any == 0
 }
@@ -219,13 +185,11 @@ pub fn lowest_free(table: &[u64], a: usize, wanted: &[u64], held: &[u64]) -> usi
     requires { (a * words + words ≤ length table.now) × (length wanted.now ≡ words) × (length held.now ≡ words) }
     ensures { Lowest (λ b. mem_row table.now a b and (mem wanted.now b and not (mem held.now b))) 0 span result }
 {
-    let mut i = 0;
-    while i < WORDS {
+    for i in 0..WORDS {
         let free = table[a * WORDS + i] & wanted[i] & !held[i];
         if free != 0 {
             return lowest_of(i, free);
         }
-        i += 1;
     }
     SPAN
 }
@@ -235,14 +199,12 @@ pub fn next_from(ws: &[u64], a: usize) -> usize
     requires { (length ws.now ≡ words) × (a ≤ span) }
     ensures { Lowest (mem ws.now) a span result }
 {
-    let mut i = a / 64;
     let mut s = a % 64;
-    while i < WORDS {
+    for i in a / 64..WORDS {
         let rest = ws[i] >> s;
         if rest != 0 {
             return lowest_of(i, rest) + s;
         }
-        i += 1;
         s = 0;
     }
     SPAN
@@ -260,7 +222,7 @@ fn join_word(table: &[u64], set: &[u64], i: usize, found: &mut [u64])
     let mut left = set[i];
     while left != 0 {
         join_row(found, table, lowest_of(i, left));
-        left = left & (left - 1);
+        left &= left - 1;
     }
 }
 
@@ -271,16 +233,8 @@ pub fn beside(table: &[u64], set: &[u64], found: &mut [u64])
     ensures { Beside table.now set.now found.new span }
 {
     let mut all = [0u64; WORDS];
-    let mut i = 0;
-    while i < set.len() {
+    for i in 0..set.len() {
         join_word(table, set, i, &mut all);
-        i += 1;
     }
     keep(found, 0, &all);
-}
-
-fn wide(x: u32) -> usize
-    ensures { (result ≡ x) × (result < 2 ^ 32) }
-{
-    x as usize
 }

@@ -1,5 +1,6 @@
 -- What opening promises allows one answer and one table: the answer reads as the paper's, an open yard has the given bays and rail ends, and each
 -- bay of each row is said to be there or not.
+use Rattle.std.proofs.Common.{Err, Ok}
 use mathlib.Core.Path.{◌≡◌, refl, sym, ap, ◌∙◌}
 use mathlib.Core.List.{List}
 use mathlib.Core.Option.{none, some}
@@ -14,8 +15,7 @@ use Rattle.docket.proofs.Telling.{refusal-tells}
 use Rattle.words.specs.Sets.{mem, mem_row, span}
 use Rattle.words.proofs.Sets.{same-words}
 use Rattle.yard.specs.declared.Yard.{Yard as Numbers}
-use Rattle.yard.specs.declared.Opened.{Opened}
-use Rattle.yard.specs.declared.Opened.TheVariants.{Open, Refused}
+use Rattle.yard.specs.Opened.{Opened}
 use Rattle.yard.specs.Opening.{Admits, Opens}
 
 same_numbers : (y z : Numbers) → y.bays ≡ z.bays → y.ends ≡ z.ends → y ≡ z
@@ -37,15 +37,15 @@ module _ (given : Order) where
   module _ (lent : ℕ) where
     same_answer : (o o' : Opened) (t t' : List ℕ) → Opens given lent o t → Opens given lent o' t'
         → (o ≡ o') × ((x : ℕ) → mem t x ≡ mem t' x)
-    same_answer (Open y) (Open z) t t' p q =
+    same_answer (Ok y) (Ok z) t t' p q =
         let a = p.admitted y refl in
         let b = q.admitted z refl in
-        (ap Open (same_numbers y z (a.bays ∙ sym b.bays) (a.ends ∙ sym b.ends)), same-table y z t t' a b)
-    same_answer (Refused r) (Refused r') t t' p q =
+        (ap Ok (same_numbers y z (a.bays ∙ sym b.bays) (a.ends ∙ sym b.ends)), same-table y z t t' a b)
+    same_answer (Err r) (Err r') t t' p q =
         let e : some (refusal_of r) ≡ some (refusal_of r') = p.answer ∙ sym q.answer in
-        (ap Refused (refusal-tells r r' (cc)), λ x. p.refused r refl x ∙ sym (q.refused r' refl x))
-    same_answer (Open y) (Refused r) t t' p q = let e : none ≡ some (refusal_of r) = p.answer ∙ sym q.answer in never (cc)
-    same_answer (Refused r) (Open y) t t' p q = let e : none ≡ some (refusal_of r) = q.answer ∙ sym p.answer in never (cc)
+        (ap Err (refusal-tells r r' (cc)), λ x. p.refused r refl x ∙ sym (q.refused r' refl x))
+    same_answer (Ok y) (Err r) t t' p q = let e : none ≡ some (refusal_of r) = p.answer ∙ sym q.answer in never (cc)
+    same_answer (Err r) (Ok y) t t' p q = let e : none ≡ some (refusal_of r) = q.answer ∙ sym p.answer in never (cc)
 
     -- Any two answers that the statement allows are equal, and so are any two tables of as many 64-bit words.
     pub open-determined : (o o' : Opened) (t t' : List ℕ) → Opens given lent o t → Opens given lent o' t'

@@ -10,20 +10,12 @@ ghost use Rattle.occupancy.specs.Standing.{Empty};
 ghost use Rattle.yard.specs.Opening.{Tests, Opens};
 
 use docket::{Bay, Carrier, Refusal};
-use first_bad::Found;
 
 // A yard by its numbers: of bays, and of rail ends, two for each rail. Its rails are in the table.
 #[derive(Clone, Copy)]
 pub struct Yard {
     pub bays: usize,
     pub ends: usize,
-}
-
-// An open yard, or why there is none.
-#[derive(Clone, Copy)]
-pub enum Opened {
-    Open(Yard),
-    Refused(Refusal),
 }
 
 impl Yard {
@@ -63,7 +55,7 @@ impl Yard {
         goal: &[u16],
         crossings: u64,
         table: &mut [u64; Yard::TABLE],
-    ) -> Opened
+    ) -> Result<Yard, Refusal>
         ensures { Opens (order bays rails.now start.now goal.now) crossings result table.new }
     {
         words::clear(table);
@@ -78,14 +70,14 @@ impl Yard {
         goal: &[u16],
         crossings: u64,
         table: &mut [u64; Yard::TABLE],
-    ) -> Opened
+    ) -> Result<Yard, Refusal>
         requires { (x : ℕ) → mem table.old x ≡ false }
         ensures { Opens (order bays rails.now start.now goal.now) crossings result table.new }
     {
         let tested = first_six(bays as usize, rails, start, goal, crossings as usize, table);
-        if let Opened::Refused(r) = tested {
+        if let Err(r) = tested {
             words::clear(table);
-            return Opened::Refused(r);
+            return Err(r);
         }
         tested
     }
@@ -106,34 +98,34 @@ pub fn first_six(
     goal: &[u16],
     crossings: usize,
     table: &mut [u64],
-) -> Opened
+) -> Result<Yard, Refusal>
     requires { (n ≤ most_bays → n * set_words ≤ length table.old) × ((x : ℕ) → mem table.old x ≡ false) }
     ensures { Tests (order n rails.now start.now goal.now) crossings result table.new }
 {
     if bad_size(n, rails, start, goal, crossings) {
-        return Opened::Refused(Refusal::Size);
+        return Err(Refusal::Size);
     }
     let rail = first_bad::bad_rail(n, rails, table);
-    if let Found::At(i) = rail {
-        return Opened::Refused(Refusal::Rail(i as u64));
+    if let Some(i) = rail {
+        return Err(Refusal::Rail(i as u64));
     }
     let apart = apart::lowest_apart(n, table);
-    if let Found::At(b) = apart {
-        return Opened::Refused(Refusal::Apart(Bay(b as u16)));
+    if let Some(b) = apart {
+        return Err(Refusal::Apart(Bay(b as u16)));
     }
     // This way round no length is too long to be compared: 1 has passed, so n is 2 or more.
     if n - Yard::KEPT_EMPTY < start.len() {
-        return Opened::Refused(Refusal::Crowd);
+        return Err(Refusal::Crowd);
     }
     let from = first_bad::bad_place(n, start);
-    if let Found::At(c) = from {
-        return Opened::Refused(Refusal::Start(Carrier(c as u32)));
+    if let Some(c) = from {
+        return Err(Refusal::Start(Carrier(c as u32)));
     }
     let to = first_bad::bad_place(n, goal);
-    if let Found::At(c) = to {
-        return Opened::Refused(Refusal::Goal(Carrier(c as u32)));
+    if let Some(c) = to {
+        return Err(Refusal::Goal(Carrier(c as u32)));
     }
-    Opened::Open(Yard {
+    Ok(Yard {
         bays: n,
         ends: rails.len(),
     })

@@ -4,11 +4,12 @@
 // the limits of document 01, Y10 among them. 164 of the vectors' 1,742 are left out: they name a bay over 65,535, which no bay number holds.
 #![tactic(auto)]
 
+use docket::Refusal;
 use std::io;
-use yard::{Opened, Yard};
+use yard::Yard;
 
 // The answer in the vectors' numbers.
-#[derive(Clone, Copy)]
+#[derive(Clone, Copy, PartialEq, Eq)]
 struct Code(u64, u64);
 
 // Whether a case agreed, what was answered, and the place after it.
@@ -19,10 +20,10 @@ struct Outcome {
     next: usize,
 }
 
-fn code_of(o: Opened) -> Code {
+fn code_of(o: Result<Yard, Refusal>) -> Code {
     match o {
-        Opened::Open(_) => Code(0, 0),
-        Opened::Refused(r) => Code(docket::number(r), docket::carried(r)),
+        Ok(_) => Code(0, 0),
+        Err(r) => Code(docket::number(r), docket::carried(r)),
     }
 }
 
@@ -34,17 +35,14 @@ fn opened(text: &[u8], at: usize) -> Outcome {
     let mut table = [0u64; Yard::TABLE];
     let bays = cases::number(text, at);
     let crossings = cases::number(text, bays.next);
-    let r = cases::list16(text, crossings.next, &mut rails);
-    let s = cases::list16(text, r.next, &mut start);
-    let g = cases::list16(text, s.next, &mut goal);
-    let i = r.count;
-    let j = s.count;
-    let k = g.count;
+    let r = cases::list(text, crossings.next, &mut rails);
+    let s = cases::list(text, r.next, &mut start);
+    let g = cases::list(text, s.next, &mut goal);
     let o = Yard::open(
         bays.value,
-        &rails[..i],
-        &start[..j],
-        &goal[..k],
+        &rails[..r.count],
+        &start[..s.count],
+        &goal[..g.count],
         crossings.value,
         &mut table,
     );
@@ -56,7 +54,7 @@ fn compared(text: &[u8], at: usize, a: Code) -> Outcome {
     let number = cases::number(text, at);
     let carried = cases::number(text, number.next);
     Outcome {
-        agrees: a.0 == number.value && a.1 == carried.value,
+        agrees: a == Code(number.value, carried.value),
         answer: a,
         next: carried.next,
     }
@@ -69,11 +67,9 @@ fn report(rt: &impl Print, name: &str, i: u64, a: Code) -> io::Result<()> {
 // How many cases of the text agree.
 fn agreeing(rt: &impl Print, name: &str, text: &[u8]) -> io::Result<u64> {
     let count = cases::number(text, 0);
-    let total = count.value;
     let mut next = count.next;
     let mut agree: u64 = 0;
-    let mut i: u64 = 0;
-    while i < total {
+    for i in 0..count.value {
         let o = opened(text, next);
         if o.agrees {
             agree += 1;
@@ -81,7 +77,6 @@ fn agreeing(rt: &impl Print, name: &str, text: &[u8]) -> io::Result<u64> {
             report(rt, name, i, o.answer)?;
         }
         next = o.next;
-        i += 1;
     }
     Ok(agree)
 }
@@ -98,8 +93,8 @@ fn tell(rt: &impl Print, n: u64) -> io::Result<()> {
 }
 
 fn main(rt: HostRuntime) -> io::Result<()> {
-    tell(&rt, of_file(&rt, "0")?)?;
-    tell(&rt, of_file(&rt, "1")?)?;
-    tell(&rt, of_file(&rt, "2")?)?;
-    tell(&rt, of_file(&rt, "3")?)
+    for name in ["0", "1", "2", "3"] {
+        tell(&rt, of_file(&rt, name)?)?;
+    }
+    Ok(())
 }

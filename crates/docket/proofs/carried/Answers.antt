@@ -1,0 +1,11 @@
+-- `docket::carried` meets its contract: it is read off the table's row.
+use Rattle.std.proofs.Common.{ap, rules}
+use mathlib.Core.Option.{get_or}
+use Rattle.docket.proofs.Telling.{row_read}
+use Rattle.docket.proofs.carried.Goals as goal
+
+pub returns-in-Plain : goal.returns-in-Plain
+returns-in-Plain c = ap (λ p. get_or p.1 0) (row_read c.in-Plain.is c.row_of-row.ensures)
+
+pub returns-in-Carrying : goal.returns-in-Carrying
+returns-in-Carrying c = ap (λ p. get_or p.1 0) (row_read c.in-Carrying.is c.row_of-row.ensures)

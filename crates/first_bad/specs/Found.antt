@@ -1,0 +1,4 @@
+use Rattle.std.specs.Prelude.{Option, ℕ}
+
+abbrev pub Found : Type 0
+Found = Option ℕ

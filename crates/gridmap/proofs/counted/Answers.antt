@@ -1,0 +1,12 @@
+use Rattle.std.proofs.Common.{arith}
+use Rattle.std.proofs.lemmas.Grind.{common_steps}
+use Rattle.gridmap.specs.Cells.{count_with}
+use Rattle.gridmap.proofs.counted.Goals as goal
+
+pub returns-then-is_bay : goal.returns-then-is_bay
+unfolding count_with
+returns-then-is_bay c = grind (arith, common_steps)
+
+pub returns-else-is_bay : goal.returns-else-is_bay
+unfolding count_with
+returns-else-is_bay c = grind (arith, common_steps)

@@ -1,0 +1,4 @@
+use Rattle.std.specs.Prelude.{Option, ℕ}
+
+abbrev pub Earlier : Type 0
+Earlier = Option ℕ

@@ -1,0 +1,4 @@
+use Rattle.std.specs.Prelude.{Result, ℕ}
+
+abbrev pub Legality : Type 0
+Legality = Result Unit ℕ

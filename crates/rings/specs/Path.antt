@@ -1,0 +1,4 @@
+use Rattle.std.specs.Prelude.{Option, ℕ}
+
+abbrev pub Path : Type 0
+Path = Option ℕ

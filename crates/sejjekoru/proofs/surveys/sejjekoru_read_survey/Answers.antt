@@ -1,0 +1,8 @@
+-- `sejjekoru::surveys::sejjekoru_read_survey` meets its contract. The answer is the request's, so what is told of the one is told of the other.
+use Rattle.std.proofs.Common.{rules}
+use Rattle.numbers.specs.Numbers.{verdict_number, verdict_value}
+use Rattle.sejjekoru.proofs.Saying.{told-as}
+use Rattle.sejjekoru.proofs.surveys.sejjekoru_read_survey.Goals as goal
+
+pub returns : goal.returns
+returns c = let says = c.read-survey.ensures in record { tells = told-as verdict_number verdict_value says.answer c.told.ensures; counted = says.bays; leaves = says.left }

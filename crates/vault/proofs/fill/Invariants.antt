@@ -1,9 +1,0 @@
--- What was read lies within the buffer, and each turn leaves less room.
-use Rattle.std.proofs.Common.{◌-◌, ◌≤◌, length}
-use Rattle.vault.proofs.fill.Given as goal
-
-abbrev pub invariant-loop-done : goal.invariant-loop-done
-invariant-loop-done g l = l.done ≤ length l.buffer
-
-abbrev pub decreases-loop-done : goal.decreases-loop-done
-decreases-loop-done g l = length l.buffer - l.done

@@ -1,0 +1,7 @@
+-- No bay of the words passed, from a on, is in the set.
+use Rattle.std.proofs.Common.{◌≡◌, false, ℕ, ◌+◌, ◌*◌, ◌≤◌, ◌<◌}
+use Rattle.words.specs.Sets.{mem}
+use Rattle.words.proofs.next_from.Given as goal
+
+abbrev pub invariant-loop-i : goal.invariant-loop-i
+invariant-loop-i l = record { shift : l.s < 64; from : l.a ≤ l.i * 64 + l.s; before : (k : ℕ) → l.a ≤ k → k < l.i * 64 + l.s → mem l.ws k ≡ false }
