@@ -1,7 +1,7 @@
 #!/usr/bin/env python3
 # Lists the places in src/ that docs/DESIGN-PASS.md counts, a line each: the point, the file with its line, and what stands there. At the end the counts.
 #   python3 tools/places.py [CRATE ..]
-# 1a  an enum of two variants one of which may carry something and the other nothing, or a refusal, a line or a carrier: an Option or a Result by hand
+# 1   an enum of two variants one of which may carry something and the other nothing, or a refusal, a line or a carrier: an Option or a Result by hand
 # 2   functions or types of one crate whose text is the same but for names, types, sizes and constants
 # 3   a while or a loop that counts by hand: in its body a name that its test or an index in it has, or that it hands on, grows or shrinks by a constant
 # 4   a conversion between two widths, or a comparison, as a function of its own or field by field
