@@ -1,16 +1,22 @@
 -- Why playing the plan from the start decides 9 and 10: the first illegal crossing found is the paper's, and where there is none
 -- the carriers stand where the whole plan leaves them.
 use mathlib.Core.Path.{◌≡◌, sym, ◌∙◌, ap, ap₂}
-use mathlib.Core.List.{List}
+use mathlib.Core.List.{List, ◌++◌, append-nil}
 use mathlib.Core.Option.{Option}
 use Prim.Native.Nat.{ℕ}
 use native.Mathlib.Omega.{arith}
+use lib.ListN.{length, drop, drop_of_length-le}
 use Rattle.paper.specs.Yard.{Placement, Crossing, bay_of, after}
 use Rattle.paper.specs.Docket.{Refusal}
 use Rattle.paper.proofs.Tests.{by-option}
 use Rattle.paper.proofs.Members.{count-high}
 use Rattle.replay.specs.Playing.{Standing, Occupied, PlayedFrom}
 use Rattle.checker.specs.Reading.{nine_ten, NineTen}
+
+-- a copy to a list as long is the whole list
+pub all_placed : (starts at at' : List ℕ) → length at ≡ length starts → at' ≡ starts ++ drop (length starts) at → at' ≡ starts
+all_placed starts at at' long e =
+    e ∙ ap (λ l. starts ++ l) (drop_of_length-le at {i = length starts} (omega (arith, long))) ∙ append-nil starts
 
 pub nine-ten : (rows : ℕ) (table : List ℕ) (starts goals : Placement) (xs : List Crossing) (at at' : Placement) (occupied : List ℕ) (found : Option ℕ)
     → at ≡ starts → Occupied starts occupied → PlayedFrom rows table at occupied xs found at'

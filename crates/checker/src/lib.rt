@@ -41,7 +41,7 @@ fn check_crossings(
     requires { (length at.old ≡ length start.now) × Placed start.now goal.now × InRows rows table.now start.now }
     ensures { NineTen rows table.now start.now goal.now (crossings plan.now) (checked_of result) }
 {
-    at.copy_from_slice(start);
+    copies::copy(at, start);
     let mut occupied = [0u8; SPAN];
     replay::occupy(start, &mut occupied);
     let legality = replay::play(table, rows, at, &mut occupied, plan);

@@ -115,10 +115,12 @@ pub fn seek_near(
     let mut ring = [0u64; words::WORDS];
     words::alone(&mut seen, u);
     words::alone(&mut ring, u);
-    for _d in 0..last {
+    let mut found = Nearby::Farther(last);
+    'nearest: for _d in 0..last {
         let mut v = words::next_from(&ring, 0);
         if words::SPAN <= v {
-            return Nearby::Nowhere;
+            found = Nearby::Nowhere;
+            break 'nearest;
         }
         while v < words::SPAN {
             let here = Trial {
@@ -128,11 +130,12 @@ pub fn seek_near(
             };
             let tried = try_junction(table, here, placement, standing, empty, out);
             if let Some(m) = tried {
-                return Nearby::Found(m);
+                found = Nearby::Found(m);
+                break 'nearest;
             }
             v = words::next_from(&ring, v + 1);
         }
         rings::widen(table, &mut seen, &mut ring);
     }
-    Nearby::Farther(last)
+    found
 }

@@ -13,7 +13,11 @@ use docket::Refusal;
 fn count_left(gone: &[u8]) -> usize
     ensures { result ≡ count_by (λ byte. eqb byte 0) gone.now }
 {
-    gone.iter().filter(|byte| **byte == 0).count()
+    let mut n = 0;
+    for byte in gone {
+        n += usize::from(*byte == 0);
+    }
+    n
 }
 
 // What is still in the plan, into the first places of `out`; what stands beyond stays. Every crossing is written, and the next one over it where it is

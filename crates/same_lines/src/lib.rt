@@ -14,5 +14,13 @@ pub fn same_lines(lent: usize, a: [Line; Yard::BAYS], fresh: usize, b: [Line; Ya
     requires { fresh < most_bays }
     ensures { result ≡ same_lines (take lent a) (take fresh b) }
 {
-    lent == fresh && a[..fresh] == b[..fresh]
+    if lent != fresh {
+        return false;
+    }
+    for c in 0..fresh {
+        if a[c] != b[c] {
+            return false;
+        }
+    }
+    true
 }

@@ -59,7 +59,12 @@ fn passes(path: &[u16], bays: &[u64]) -> bool
     requires { PassesAsks path.now bays.now }
     ensures { result ≡ true → PassesSays path.now bays.now }
 {
-    path.iter().any(|bay| words::is_in(bays, *bay as usize))
+    for bay in path {
+        if words::is_in(bays, *bay as usize) {
+            return true;
+        }
+    }
+    false
 }
 
 // The scout, if it stands on the path; otherwise a new one, which sets out at the bay `from`.

@@ -103,7 +103,8 @@ fn seek_far(
     met[0] = u;
     let mut done = 0;
     let mut count = 1;
-    for d in 0..n {
+    let mut found = None;
+    'nearest: for d in 0..n {
         let mut v = first_far(&ring, k, d);
         while v < words::SPAN {
             let junction = Bay(v as u16);
@@ -129,7 +130,8 @@ fn seek_far(
                 let tried = turn.tried;
                 scouts = turn.scouts;
                 if let Some(m) = tried {
-                    return Some(m);
+                    found = Some(m);
+                    break 'nearest;
                 }
             }
             v = words::next_from(&ring, v + 1);
@@ -146,11 +148,11 @@ fn seek_far(
             &mut before,
         );
         if count == end {
-            return None;
+            break 'nearest;
         }
         done = end;
     }
-    None
+    found
 }
 
 // The trial at the first junction where it succeeds, near or far; the list is left as that trial leaves it.

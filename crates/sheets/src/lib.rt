@@ -15,7 +15,7 @@ pub fn gather(lines: &[Line]) -> HeldLines
     let count = lines.len();
     let top = held_lines::top(count);
     let mut kept = held_lines::no_lines();
-    kept[..top].copy_from_slice(&lines[..top]);
+    copies::copy(&mut kept, &lines[..top]);
     held_lines::hold(count, kept)
 }
 
@@ -25,7 +25,7 @@ pub fn fill(lines: &mut [Line], held: HeldLines)
     ensures { lines.new ≡ take held.count held.lines ++ drop held.count lines.old }
 {
     let top = held.count;
-    lines[..top].copy_from_slice(&held.lines[..top]);
+    copies::copy(lines, &held.lines[..top]);
 }
 
 // One line changed, where there is one at that place.

@@ -89,7 +89,12 @@ pub fn is_letter(b: u8) -> bool
 fn all_letters(text: &[u8]) -> bool
     ensures { result ≡ all letter text.now }
 {
-    text.iter().all(|b| is_letter(*b))
+    for b in text {
+        if !is_letter(*b) {
+            return false;
+        }
+    }
+    true
 }
 
 fn is_row(text: &[u8], width: u8) -> bool

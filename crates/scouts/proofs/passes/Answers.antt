@@ -1,13 +1,10 @@
 -- The path's bays are low enough to be asked for.
-use Rattle.std.proofs.Common.{◌<◌, arith, rules}
-use Rattle.std.proofs.lemmas.Grind.{get_or_default_zero}
-use Rattle.std.proofs.lemmas.Iterator.{YieldsList-from_slice}
-use Rattle.std.proofs.lemmas.Iterator.Adapters.{serves_from_places}
+use Rattle.std.proofs.Common.{◌<◌, sym, ◌∙◌, arith, rules}
 use Rattle.words.specs.Sets.{span}
 use Rattle.scouts.proofs.passes.Goals as goal
 
-pub any-requires-clause-callable : goal.any-requires-clause-callable
-any-requires-clause-callable c =
-    let path = c.args.path.now in
-    serves_from_places (YieldsList-from_slice path cc) (λ x q k. search rules)
-    (λ x k h e. let low : x.now < span = omega (arith, c.requires.low k h, e, get_or_default_zero path k x.now h) in search rules)
+pub is_in-requires : goal.is_in-requires
+is_in-requires c = omega (arith, c.requires.size, c.requires.low c.loop-bay.bay-index c.loop-bay-test.true)
+
+pub returns-then-is_in : goal.returns-then-is_in
+returns-then-is_in c = λ z. record { place = c.loop-bay.bay-index; there = c.loop-bay-test.true; passed = sym c.is_in.ensures ∙ c.if-is_in.true }

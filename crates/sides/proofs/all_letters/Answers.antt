@@ -1,11 +1,18 @@
-use Rattle.std.proofs.Common.{◌∙◌, rules, tests}
-use Rattle.std.proofs.lemmas.Iterator.{YieldsList-from_slice}
-use Rattle.std.proofs.lemmas.Iterator.Search.{all_from_yields_List}
+use Rattle.std.proofs.Common.{refl, sym, ◌∙◌}
 use Rattle.sides.specs.Letters.{letter}
-use Rattle.sides.proofs.Rows.{all-listed}
+use Rattle.sides.proofs.Rows.{all-on, all-not, all_none}
 use Rattle.sides.proofs.all_letters.Goals as goal
 
+pub loop-b-init : goal.loop-b-init
+loop-b-init c = refl
+
+pub returns-then-not-is_letter : goal.returns-then-not-is_letter
+returns-then-not-is_letter c =
+    all-not letter c.args.text.now c.loop-b.b-index c.loop-b-test.true (sym c.is_letter.ensures ∙ c.if-not-is_letter.true) ∙ c.loop-b.invariant
+
+pub loop-b-preserved : goal.loop-b-preserved
+loop-b-preserved c =
+    sym (all-on letter c.args.text.now c.loop-b.b-index c.loop-b-test.true (sym c.is_letter.ensures ∙ c.if-not-is_letter.false)) ∙ c.loop-b.invariant
+
 pub returns : goal.returns
-returns c =
-    all_from_yields_List letter _ _ _ c.all.ensures.ran (YieldsList-from_slice c.args.text.now cc) (λ x b q k. search (rules, tests))
-    ∙ all-listed letter c.args.text.now
+returns c = all_none letter c.args.text.now c.loop-b.b-index c.loop-b-test.false ∙ c.loop-b.invariant
