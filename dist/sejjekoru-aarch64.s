@@ -29264,12 +29264,12 @@ sejjekoru_report:                       // @sejjekoru_report
 	orr	w14, w14, w15
 	tst	w14, #0xffff
 	b.ne	.LBB49_52
-// %bb.50:                              // %loop.2.i.i.i272.i.i.i
+// %bb.50:                              // %loop.2.i.i.i273.i.i.i
                                         //   in Loop: Header=BB49_49 Depth=1
 	subs	x13, x13, #1
 	add	x11, x11, #64
 	b.ne	.LBB49_49
-.LBB49_51:                              // %after.1.i.i.i275.i.i.i
+.LBB49_51:                              // %after.1.i.i.i276.i.i.i
 	and	x11, x9, #0xffffffffffffffc0
 .LBB49_52:                              // %"mark_order::done_to.exit.i.i266.i.i.i"
 	cmp	x11, x12
@@ -30236,12 +30236,12 @@ sejjekoru_report_billed:                // @sejjekoru_report_billed
 	orr	w9, w9, w10
 	tst	w9, #0xffff
 	b.ne	.LBB50_91
-// %bb.89:                              // %loop.2.i.i.i.i309.i.i.i
+// %bb.89:                              // %loop.2.i.i.i.i310.i.i.i
                                         //   in Loop: Header=BB50_88 Depth=1
 	subs	x8, x8, #1
 	add	x23, x23, #64
 	b.ne	.LBB50_88
-.LBB50_90:                              // %after.1.i.i.i.i312.i.i.i
+.LBB50_90:                              // %after.1.i.i.i.i313.i.i.i
 	and	x23, x25, #0xffffffffffffffc0
 .LBB50_91:                              // %"mark_order::done_to.exit.i.i.i301.i.i.i"
 	ldr	x25, [sp, #64]                  // 8-byte Reload

@@ -26940,7 +26940,7 @@ sejjekoru_report:                       # @sejjekoru_report
                                         #   in Loop: Header=BB50_27 Depth=1
 	cmpb	$1, 64(%rsp,%rsi)
 	jne	.LBB50_33
-.LBB50_31:                              # %"mark_order::bad_marks.exit.thread290.i.i.i"
+.LBB50_31:                              # %"mark_order::bad_marks.exit.thread291.i.i.i"
 	movb	$10, %dl
 	xorl	%esi, %esi
 	xorl	%eax, %eax
@@ -26998,12 +26998,12 @@ sejjekoru_report:                       # @sejjekoru_report
 	pmovmskb	%xmm0, %r8d
 	xorl	$65535, %r8d                    # imm = 0xFFFF
 	jne	.LBB50_42
-# %bb.39:                               # %loop.2.i.i.i272.i.i.i
+# %bb.39:                               # %loop.2.i.i.i273.i.i.i
                                         #   in Loop: Header=BB50_40 Depth=1
 	addq	$64, %rsi
 	decq	%rdx
 	jne	.LBB50_40
-.LBB50_41:                              # %after.1.i.i.i275.i.i.i
+.LBB50_41:                              # %after.1.i.i.i276.i.i.i
 	andq	$-64, %rcx
 	movq	%rcx, %rsi
 .LBB50_42:                              # %"mark_order::done_to.exit.i.i266.i.i.i"
@@ -27811,12 +27811,12 @@ sejjekoru_report_billed:                # @sejjekoru_report_billed
 	pmovmskb	%xmm0, %ecx
 	xorl	$65535, %ecx                    # imm = 0xFFFF
 	jne	.LBB51_54
-# %bb.51:                               # %loop.2.i.i.i.i309.i.i.i
+# %bb.51:                               # %loop.2.i.i.i.i310.i.i.i
                                         #   in Loop: Header=BB51_52 Depth=1
 	addq	$64, %rbx
 	decq	%rax
 	jne	.LBB51_52
-.LBB51_53:                              # %after.1.i.i.i.i312.i.i.i
+.LBB51_53:                              # %after.1.i.i.i.i313.i.i.i
 	andq	$-64, %rbp
 	movq	%rbp, %rbx
 .LBB51_54:                              # %"mark_order::done_to.exit.i.i.i301.i.i.i"

@@ -38,7 +38,8 @@ fn undone_before(plan: &[u64], marks: &[u8], x: Crossing, name: usize) -> Option
     requires { (name ≤ length plan.now) × (length marks.now ≡ length plan.now) }
     ensures { earlier_of result ≡ find (λ e. depend (crossing_of x) (named (crossings plan.now) e) and not (is_done marks.now e)) (up_to name) }
 {
-    for e in mark_order::done_to(marks)..name {
+    let done = mark_order::done_to(marks);
+    for e in done..name {
         if waits_for(plan, marks, x, e) {
             return Some(e as u64);
         }

@@ -55,7 +55,9 @@ fn shorten_in(
     remaining::finish(plan, gone, out)
 }
 
-// The same, with room for a plan of ROOM crossings. The arrays stand here only, since clearing them takes time.
+// The same, with room for a plan of ROOM crossings. The arrays stand here only, since clearing them takes time, and never in a caller, which would reach for the
+// stack of the largest room at each call.
+#[inline(never)]
 fn shorten_within<const ROOM: usize, const WORDS: usize, const ROOM_LINKS: usize>(
     plan: &[u64],
     out: &mut [u64],

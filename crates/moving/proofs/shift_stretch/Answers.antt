@@ -1,12 +1,18 @@
-use Rattle.std.proofs.Common.{◌≡◌, ◌+◌, ◌-◌, ◌∙◌, arith}
-use Rattle.moving.proofs.Shifting.{shift_none, first-low, last-low, shifting-none, shifting-asks, shifting-on, shifting-all}
+use Rattle.std.proofs.Common.{◌≡◌, ◌+◌, ◌-◌, ◌≤◌, ◌∙◌, arith, drop, length, ℕ, List}
+use Rattle.moving.specs.Placed.{Placed, CanShift}
+use Rattle.moving.proofs.Shifting.{Shifting, shift_none, first-low, last-low, shifting-none, shifting-asks, shifting-on, shifting-all}
 use Rattle.moving.proofs.shift_stretch.Goals as goal
 
 pub returns-then-path-lt2 : goal.returns-then-path-lt2
 returns-then-path-lt2 c = shift_none _ _ _ _ _ _ _ c.if-path-lt2.true c.requires.placed
 
+-- nobody has moved where the place is the path's last
+none_moved : {n : ℕ} {p : List ℕ} (path : List ℕ) (s : CanShift n p path) {standing empty : List ℕ} (out : List ℕ) (at i : ℕ) → i ≡ length path - 1 → 2 ≤ length path
+    → Placed n p standing empty → Shifting n p (drop i path) p standing out at out at
+none_moved path s out at i e h k = rw e (shifting-none path s out at h k)
+
 pub loop-i-init : goal.loop-i-init
-loop-i-init c = shifting-none _ c.requires.can_shift _ _ c.if-path-lt2.false c.requires.placed
+loop-i-init c = none_moved _ c.requires.can_shift _ _ _ (omega arith) c.if-path-lt2.false c.requires.placed
 
 pub move_on-count-requires : goal.move_on-count-requires
 move_on-count-requires c =

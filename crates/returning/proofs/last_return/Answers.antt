@@ -62,7 +62,8 @@ loop-m-preserved c =
     let step : (last ≤ t.m) × (last_from x (crossings plan) gone last (t.m + 1) ≡ last_from x (crossings plan) gone t.last t.m) =
     elim c.if-gone-m-eq0.branch [
       | then-gone-m-eq0+then-y-x+else-y-x-2 w ↦
-          rw w.last-is (omega arith, returning-back plan gone long x t.last t.m inside w.if-gone-m-eq0.true meets (ap (λ y. y.carrier) (sym y) ∙ w.if-y-x-2.false))
+          let is : last ≡ t.m = grind arith in
+          rw is (omega arith, returning-back plan gone long x t.last t.m inside w.if-gone-m-eq0.true meets (ap (λ y. y.carrier) (sym y) ∙ w.if-y-x-2.false))
       | else-gone-m-eq0 w ↦
           rw w.last-is (
             omega (arith, t.invariant.before),

@@ -1,9 +1,6 @@
-use Rattle.std.proofs.Common.{◌≡◌, length, ap, ◌∙◌, refl, arith}
+use Rattle.std.proofs.Common.{◌≡◌, length, ap, ◌∙◌, arith}
 use Rattle.reverse_list.proofs.Writing.{written_to, written-more, written_all}
 use Rattle.reverse_list.proofs.write.Goals as goal
-
-pub loop-i-init : goal.loop-i-init
-loop-i-init c = refl
 
 pub loop-i-preserved : goal.loop-i-preserved
 loop-i-preserved c = written-more c.args.list.now c.args.out.now _ _ _ (omega arith) c.requires c.turned.ensures c.loop-i.invariant
